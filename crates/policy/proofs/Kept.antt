@@ -1,21 +1,18 @@
 -- The laws above the rules. Assumes nothing.
 use mathlib.Core.Path.{_≡_, refl, sym, ap, subst, _∙_}
-use mathlib.Core.Bool.{true, false, cond, _&&_}
+use mathlib.Core.Bool.{cond, _&&_}
 use mathlib.Core.List.{List, [], _∷_}
 use Prim.Native.Nat.{ℕ, zero, suc, _+_, _-_, _*_, _/_, _%_, _<_, _≤_, min}
 use native.Mathlib.Nat.{add-mul, one-mul, zero-mul, div-add-mod', mod-lt, sub-zero, add-zero, zero-add}
 use native.Mathlib.Omega.{arith}
-use lib.Dec.{leb, ltb}
+use lib.Dec.{ltb}
 use lib.ListN.{length, take, getD}
 use Rattle.std.specs.shelf.Lists.{countBy}
 use Rattle.std.proofs.shelf.Sums.{sumBy-cons}
 use Rattle.std.proofs.shelf.Tests.{cond-both, cond-true, cond-false, lt-leb, le-leb, ltb-true, and-parts}
-use Rattle.std.proofs.shelf.Ways.{tells}
-use Rattle.policy.specs.Queue.{Queue}
-use Rattle.policy.specs.Fair.{total, Within, Rule, Fair, Fairly}
-use Rattle.policy.specs.Asked.{answered}
+use Rattle.policy.specs.Fair.{total, Within, Rule}
 use Rattle.policy.specs.PriceTime.{price-time}
-use Rattle.policy.specs.ProRata.{whole, broken, spare, dealt, shared, pro-rata}
+use Rattle.policy.specs.ProRata.{whole, broken, spare, dealt, shared}
 use Rattle.policy.specs.Favour.{capped, favoured, less, more, favour}
 use Rattle.policy.specs.Laws.{Queues-are-answered, Price-time-earliest, Near, Pro-rata-near, share-at, Pro-rata-places, Favour-first}
 use Rattle.policy.proofs.Queues.{answered-length, answered-queue, queue-answered}

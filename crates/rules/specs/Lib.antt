@@ -11,3 +11,5 @@ pub mod Refusals
 pub mod Machine
 pub mod Checks
 pub mod Steps
+pub mod Laws
+pub mod Samples

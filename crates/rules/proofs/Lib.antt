@@ -1,2 +1,5 @@
 pub mod Held
 pub mod Volumes
+pub mod Prices
+pub mod Shared
+pub mod Filled

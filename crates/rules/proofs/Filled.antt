@@ -94,6 +94,10 @@ abbrev pub own : Terms → (ℕ → Side → Bool) → Side → ℕ → ℕ
 own (Opening p) t s n = 0
 own (Entry number) t s n = cond (t number (other s)) n 0
 
+pub own-none : (terms : Terms) (t : ℕ → Side → Bool) (s : Side) → own terms t s 0 ≡ 0
+own-none (Opening p) t s = refl
+own-none (Entry number) t s = cond-both (t number (other s)) 0 0 (λ n. n ≡ 0) (λ _. refl) (λ _. refl)
+
 pub own-sum : (terms : Terms) (t : ℕ → Side → Bool) (s : Side) (n m : ℕ) → own terms t s n + own terms t s m ≡ own terms t s (n + m)
 own-sum (Opening p) t s n m = refl
 own-sum (Entry number) t s n m = cond-sum (t number (other s)) n m
@@ -136,7 +140,7 @@ at-self Offer (Limit x) = eq-eqb x x refl
 at-self Offer OnOpen = refl
 
 -- an entry's own line is of the other side
-own-side : (terms : Terms) (s : Side) (n : ℕ) → own terms (λ i side. is s side) s n ≡ 0
+pub own-side : (terms : Terms) (s : Side) (n : ℕ) → own terms (λ i side. is s side) s n ≡ 0
 own-side (Opening p) s n = refl
 own-side (Entry number) Bid n = refl
 own-side (Entry number) Offer n = refl
@@ -205,6 +209,10 @@ queue-small (o ∷ os) a = (a .0 .1, queue-small os (a .1))
 -- the lots of some orders, with those on the tape
 abbrev pub account : (ℕ → Side → Bool) → Step → ℕ
 account t m = held (λ o. t (o .number) (o .side)) (m .orders) + lined t (m .tape)
+
+-- the lots of a side's orders
+abbrev pub side-held : Side → List Order → ℕ
+side-held s os = held (λ o. is s (o .side)) os
 
 -- the lots of orders of one kind
 abbrev pub of-kind : (Side → Kind → Bool) → List Order → ℕ

@@ -3,3 +3,5 @@ pub mod Volumes
 pub mod Prices
 pub mod Shared
 pub mod Filled
+pub mod Served
+pub mod Crossed

@@ -196,6 +196,12 @@ kept-length : (t : Order → Bool) (os : List Order) → length (kept-by t os) �
 kept-length t [] = omega arith
 kept-length t (o ∷ os) = cond-both (t o) (o ∷ kept-by t os) (kept-by t os) (λ z. length z ≤ suc (length os)) (λ _. omega (arith, kept-length t os)) (λ _. omega (arith, kept-length t os))
 
+pub kept-sound : (t : Order → Bool) (os : List Order) → Sound os → Sound (kept-by t os)
+kept-sound t os a = all-kept-by t (λ o. (1 ≤ o .lots) × (o .lots ≤ most-lots) × In-range (o .kind)) os a
+
+pub kept-book : (t : Order → Bool) (os : List Order) → Book os → Book (kept-by t os)
+kept-book t os b = record { sound = kept-sound t os (b .sound); few = omega (arith, kept-length t os, b .few) }
+
 queue-length : (os : List Order) → length (map (λ (o : Order). o .lots) os) ≡ length os
 queue-length [] = refl
 queue-length (o ∷ os) = ap suc (queue-length os)
@@ -222,7 +228,7 @@ module _ (rule : Rule) (fair : Fairly rule) (s : Side) (v : ℕ) (k : Kind) (os 
   level-queue : Queue (queue s k os)
   level-queue = record {
     few = omega (arith, queue-length (level s k os), kept-length (at s k) os, b .few);
-    small = queue-small (level s k os) (all-kept-by (at s k) (λ o. (1 ≤ o .lots) × (o .lots ≤ most-lots) × In-range (o .kind)) os (b .sound));
+    small = queue-small (level s k os) (kept-sound (at s k) os (b .sound));
   }
 
   answer : Fair (queue s k os) v (shares rule (queue s k os) v)

@@ -5,3 +5,4 @@ pub mod Shared
 pub mod Filled
 pub mod Served
 pub mod Crossed
+pub mod Openings

@@ -163,20 +163,20 @@ all-into s P x (y ∷ ys) h a = cond-both (better-than s y x) (x ∷ y ∷ ys) (
     (λ _. (h, a))
     (λ _. cond-both (eqb x y) (y ∷ ys) (y ∷ into s x ys) (All P) (λ _. a) (λ _. (a .0, all-into s P x ys h (a .1))))
 
-better-than-chain : (s : Side) (x y z : ℕ) → better-than s y x ≡ true → better-than s z y ≡ true → better-than s z x ≡ true
-better-than-chain Bid x y z a b = grind (arith, tells)
-better-than-chain Offer x y z a b = grind (arith, tells)
+better-chain : (s : Side) (x y z : ℕ) → better-than s y x ≡ true → better-than s z y ≡ true → better-than s z x ≡ true
+better-chain Bid x y z a b = grind (arith, tells)
+better-chain Offer x y z a b = grind (arith, tells)
 
-pub better-than-else : (s : Side) (x y : ℕ) → better-than s y x ≡ false → eqb x y ≡ false → better-than s x y ≡ true
-better-than-else Bid x y a b = grind (arith, tells)
-better-than-else Offer x y a b = grind (arith, tells)
+pub better-else : (s : Side) (x y : ℕ) → better-than s y x ≡ false → eqb x y ≡ false → better-than s x y ≡ true
+better-else Bid x y a b = grind (arith, tells)
+better-else Offer x y a b = grind (arith, tells)
 
 into-sorted : (s : Side) (x : ℕ) (ys : List ℕ) → Sorted s ys → Sorted s (into s x ys)
 into-sorted s x [] a = (tt, tt)
 into-sorted s x (y ∷ ys) a = cond-both (better-than s y x) (x ∷ y ∷ ys) (cond (eqb x y) (y ∷ ys) (y ∷ into s x ys)) (Sorted s)
-    (λ e. ((e, all-weaker (λ z. better-than s z y ≡ true) (λ z. better-than s z x ≡ true) (λ z h. better-than-chain s x y z e h) ys (a .0)), a))
+    (λ e. ((e, all-weaker (λ z. better-than s z y ≡ true) (λ z. better-than s z x ≡ true) (λ z h. better-chain s x y z e h) ys (a .0)), a))
     (λ e. cond-both (eqb x y) (y ∷ ys) (y ∷ into s x ys) (Sorted s) (λ _. a)
-    (λ ne. (all-into s (λ z. better-than s z y ≡ true) x ys (better-than-else s x y e ne) (a .0), into-sorted s x ys (a .1))))
+    (λ ne. (all-into s (λ z. better-than s z y ≡ true) x ys (better-else s x y e ne) (a .0), into-sorted s x ys (a .1))))
 
 pub best-first-sorted : (s : Side) (xs : List ℕ) → Sorted s (best-first s xs)
 best-first-sorted s [] = tt

@@ -6,3 +6,5 @@ pub mod Filled
 pub mod Served
 pub mod Crossed
 pub mod Openings
+pub mod Kept
+pub mod Sampled

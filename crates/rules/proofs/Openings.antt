@@ -76,11 +76,11 @@ pub record Opening-keeps (rule : Rule) (os : List Order) : Type 0 where
   -- where a level trades, nothing better is left
   pub better-first : (p : ℕ) → price os ≡ Some p → (s : Side) (x : ℕ) → held (at s (Limit x)) (opened rule os .orders) < held (at s (Limit x)) os → ahead s (opened rule os .orders) x ≡ 0
 
-upper-better : (s : Side) (p : ℕ) → Upper s (better-than s p)
+pub upper-better : (s : Side) (p : ℕ) → Upper s (better-than s p)
 upper-better Bid p x y b f = grind (arith, tells)
 upper-better Offer p x y b f = grind (arith, tells)
 
-upper-good : (s : Side) (p : ℕ) → Upper s (as-good-as s p)
+pub upper-good : (s : Side) (p : ℕ) → Upper s (as-good-as s p)
 upper-good Bid p x y b f = grind (arith, tells)
 upper-good Offer p x y b f = grind (arith, tells)
 
@@ -260,6 +260,11 @@ module _ (rule : Rule) (fair : Fairly rule) (os : List Order) (b : Book os) (p :
   one-clear : (s : Side) → ahead s (one .orders) p ≡ 0
   one-clear Bid = omega (arith, one-ahead Bid, k .above)
   one-clear Offer = omega (arith, one-ahead Offer, k .below)
+
+  -- no price that stage one leaves is better than p
+  pub one-left : (s : Side) (x : ℕ) → In x (prices s (stage-one rule p (volume os) (start os) .orders)) → as-good-as s x p ≡ true
+  unfolding one
+  one-left s x i = beyond s (one .orders) p x (one-clear s) (in-level s (one .orders) (bk .sound) x i)
 
   one-even : Trades (volume os) (start os) one
   unfolding one

@@ -2,7 +2,6 @@
 use mathlib.Core.Path.{refl}
 use mathlib.Core.List.{List}
 use native.Mathlib.Omega.{arith}
-use lib.Dec.{eqb}
 use Rattle.std.proofs.shelf.Tests.{leb-true}
 use Rattle.std.proofs.shelf.Ways.{tells}
 use Rattle.rules.specs.declared.order.Side.the-variants.{Bid, Offer}
@@ -23,7 +22,7 @@ volume-is-largest os = record { attained = attained os; never-exceeded = never-m
 
 pub fill-keeps-lots : Fill-keeps-lots
 fill-keeps-lots rule fair p s v k m b = record {
-  each-order = λ n. omega (arith, fill-account rule fair (Opening p) s v k m b tt (λ i side. eqb n i));
+  none-lost = λ t. omega (arith, fill-account rule fair (Opening p) s v k m b tt t);
   traded = fill-trades rule fair (Opening p) s v k m b tt;
   left = fill-level rule fair (Opening p) s v k m b;
 }

@@ -1,7 +1,7 @@
 -- Laws above the definitions that walk, in the words of the market.
 use mathlib.Core.Path.{_≡_}
-use mathlib.Core.Bool.{cond}
-use lib.Dec.{leb, ltb, eqb}
+use mathlib.Core.Bool.{Bool, cond}
+use lib.Dec.{leb, ltb}
 use mathlib.Core.Logic.{_⊎_}
 use mathlib.Core.List.{List, [], _∷_}
 use Prim.Native.Nat.{ℕ, _+_, _-_, _≤_, min}
@@ -39,7 +39,7 @@ Volume-is-largest = (os : List Order) → Largest os
 -- Filling a level loses no lot, whichever orders are looked at by number and side: what they held is what they hold and
 -- what their new lines say. The level as a whole gives the lesser of what it holds and what is asked.
 pub record Keeps-lots (rule : Rule) (p : ℕ) (s : Side) (v : ℕ) (k : Kind) (m : Step) : Type 0 where
-  pub each-order : (n : ℕ) → held (λ o. eqb n (o .number)) (m .orders) + lined (λ i side. eqb n i) (m .tape) ≡ held (λ o. eqb n (o .number)) (fill rule (Opening p) s v k m .orders) + lined (λ i side. eqb n i) (fill rule (Opening p) s v k m .tape)
+  pub none-lost : (t : ℕ → Side → Bool) → held (λ o. t (o .number) (o .side)) (m .orders) + lined t (m .tape) ≡ held (λ o. t (o .number) (o .side)) (fill rule (Opening p) s v k m .orders) + lined t (fill rule (Opening p) s v k m .tape)
   pub traded : lined (λ i side. is s side) (fill rule (Opening p) s v k m .tape) ≡ lined (λ i side. is s side) (m .tape) + min v (held (at s k) (m .orders))
   pub left : held (at s k) (fill rule (Opening p) s v k m .orders) + min v (held (at s k) (m .orders)) ≡ held (at s k) (m .orders)
 

@@ -6,5 +6,6 @@ pub mod Filled
 pub mod Served
 pub mod Crossed
 pub mod Openings
+pub mod Sessions
 pub mod Kept
 pub mod Sampled

@@ -76,13 +76,13 @@ highest-in xs x h r = elim (cases-lt lowest-price (highest xs)) [
 
 -- ---- filters
 
-kept-in : (t : ℕ → Bool) (xs : List ℕ) (x : ℕ) → In x xs → t x ≡ true → In x (kept-by t xs)
+pub kept-in : (t : ℕ → Bool) (xs : List ℕ) (x : ℕ) → In x xs → t x ≡ true → In x (kept-by t xs)
 kept-in t [] x h e = absurd h
 kept-in t (y ∷ ys) x h e = cond-both (t y) (y ∷ kept-by t ys) (kept-by t ys) (λ zs. In x zs)
     (λ _. elim h [ inl i ↦ inl i | inr h′ ↦ inr (kept-in t ys x h′ e) ])
     (λ n. elim h [ inl i ↦ (let z : true ≡ false = sym e ∙ ap t i ∙ n in let z′ : _≡_ {A = ℕ} 0 1 = cc in absurd (omega arith)) | inr h′ ↦ kept-in t ys x h′ e ])
 
-in-kept : (t : ℕ → Bool) (xs : List ℕ) (x : ℕ) → In x (kept-by t xs) → In x xs × (t x ≡ true)
+pub in-kept : (t : ℕ → Bool) (xs : List ℕ) (x : ℕ) → In x (kept-by t xs) → In x xs × (t x ≡ true)
 in-kept t [] x h = absurd h
 in-kept t (y ∷ ys) x h = cond-both (t y) (y ∷ kept-by t ys) (kept-by t ys) (λ zs. In x zs → In x (y ∷ ys) × (t x ≡ true))
     (λ e h. elim h [ inl i ↦ (inl i, ap t i ∙ e) | inr h′ ↦ (let r = in-kept t ys x h′ in (inr (r .0), r .1)) ])

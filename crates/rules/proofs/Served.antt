@@ -6,10 +6,10 @@ use mathlib.Core.List.{List, [], _∷_, map}
 use Prim.Native.Nat.{ℕ, _+_, _-_, _≤_, _<_, min}
 use native.Mathlib.Omega.{arith}
 use lib.Dec.{eqb}
-use Rattle.std.specs.shelf.Lists.{All}
-use Rattle.std.proofs.shelf.Tests.{cases-lt, cases-bool, cond-both, cond-true, eq-eqb}
+use Rattle.std.specs.shelf.Lists.{kept-by, All}
+use Rattle.std.proofs.shelf.Tests.{cases-lt, cases-bool, cond-both, cond-true, cond-false, eq-eqb}
 use Rattle.std.proofs.shelf.Ways.{tells}
-use Rattle.std.proofs.shelf.Elements.{all-weaker}
+use Rattle.std.proofs.shelf.Elements.{all-weaker, all-kept-by}
 use Rattle.policy.specs.Fair.{Rule, Fairly}
 use Rattle.rules.specs.declared.order.Side.{Side}
 use Rattle.rules.specs.declared.order.Side.the-variants.{Bid, Offer}
@@ -22,6 +22,7 @@ use Rattle.rules.specs.Orders.{held, priced, limits, prices, same, at, Book}
 use Rattle.rules.specs.Trades.{Step, fill, serve, into, best-first, ranked, levels}
 use Rattle.rules.specs.Laws.{In}
 use Rattle.rules.proofs.Held.{lots-at, level-in}
+use Rattle.rules.proofs.Prices.{kept-in}
 use Rattle.rules.proofs.Filled.{limit-writes, own, own-none, own-sum, is-self, account, side-held, of-kind, line-price, fill-none, fill-book, fill-account, fill-kind, fill-price}
 
 -- ---- a level by its price
@@ -62,6 +63,10 @@ in-false t (y ∷ ys) x a i e = elim i [
   | inr i′ ↦ in-false t ys x (a .1) i′ e
 ]
 
+every : (P : ℕ → Type 0) → ((x : ℕ) → P x) → (xs : List ℕ) → All P xs
+every P h [] = tt
+every P h (x ∷ xs) = (h x, every P h xs)
+
 -- ---- serving
 
 module _ (rule : Rule) (fair : Fairly rule) (terms : Terms) (s : Side) where
@@ -94,13 +99,17 @@ module _ (rule : Rule) (fair : Fairly rule) (terms : Terms) (s : Side) where
         ap (own terms t s) d,
       )
 
-  -- what no level holds stays as it is
-  pub serve-other : (v : ℕ) (xs : List ℕ) (m : Step) → Book (m .orders) → (T : Side → Kind → Bool) → ((x : ℕ) → T s (Limit x) ≡ false) → of-kind T (serve rule terms s v (map Limit xs) m .orders) ≡ of-kind T (m .orders)
-  serve-other v [] m b T h = refl
-  serve-other v (x ∷ xs) m b T h =
+  -- what none of the levels holds stays as it is
+  pub serve-beside : (v : ℕ) (xs : List ℕ) (m : Step) → Book (m .orders) → (T : Side → Kind → Bool) → All (λ x. T s (Limit x) ≡ false) xs → of-kind T (serve rule terms s v (map Limit xs) m .orders) ≡ of-kind T (m .orders)
+  serve-beside v [] m b T h = refl
+  serve-beside v (x ∷ xs) m b T h =
       let e = fill-kind rule fair terms s v (Limit x) m b T in
-      let z : cond (T s (Limit x)) (min v (held (at s (Limit x)) (m .orders))) 0 ≡ 0 = rw (h x) in
-      omega (arith, serve-other (v - held (at s (Limit x)) (m .orders)) xs (fill rule terms s v (Limit x) m) (fill-book rule fair terms s v (Limit x) m b) T h)
+      let z = cond-false (T s (Limit x)) (min v (held (at s (Limit x)) (m .orders))) 0 (h .0) in
+      omega (arith, serve-beside (v - held (at s (Limit x)) (m .orders)) xs (fill rule terms s v (Limit x) m) (fill-book rule fair terms s v (Limit x) m b) T (h .1))
+
+  -- what no limit holds stays as it is
+  pub serve-other : (v : ℕ) (xs : List ℕ) (m : Step) → Book (m .orders) → (T : Side → Kind → Bool) → ((x : ℕ) → T s (Limit x) ≡ false) → of-kind T (serve rule terms s v (map Limit xs) m .orders) ≡ of-kind T (m .orders)
+  serve-other v xs m b T h = serve-beside v xs m b T (every (λ x. T s (Limit x) ≡ false) h xs)
 
   -- no lot left to trade: nothing changes
   pub serve-idle : (v : ℕ) (ks : List Kind) (m : Step) → Book (m .orders) → (T : Side → Kind → Bool) → v ≡ 0 → of-kind T (serve rule terms s v ks m .orders) ≡ of-kind T (m .orders)
@@ -214,6 +223,21 @@ pub serve-levels : (rule : Rule) → Fairly rule → (terms : Terms) (s : Side) 
 serve-levels rule fair terms s t up v os m b alike =
     serve-front rule fair terms s t v (ranked s os) m b (sorted-front s t up (ranked s os) (best-first-sorted s (prices s os)))
     (λ x _ h. best-first-in s (prices s os) x (level-in s os x (omega (arith, alike x))))
+
+-- ---- some of the levels
+
+kept-sorted : (s : Side) (a : ℕ → Bool) (xs : List ℕ) → Sorted s xs → Sorted s (kept-by a xs)
+kept-sorted s a [] h = tt
+kept-sorted s a (x ∷ xs) h = cond-both (a x) (x ∷ kept-by a xs) (kept-by a xs) (Sorted s)
+    (λ _. (all-kept-by a (λ y. better-than s y x ≡ true) xs (h .0), kept-sorted s a xs (h .1)))
+    (λ _. kept-sorted s a xs (h .1))
+
+-- served by the levels whose price passes a, of which t picks some
+pub serve-some : (rule : Rule) → Fairly rule → (terms : Terms) (s : Side) (a t : ℕ → Bool) → Upper s t → ((x : ℕ) → t x ≡ true → a x ≡ true) → (v : ℕ) (m : Step) → Book (m .orders) → limits s t (serve rule terms s v (map Limit (kept-by a (ranked s (m .orders)))) m .orders) ≡ limits s t (m .orders) - v
+serve-some rule fair terms s a t up narrow v m b =
+    let xs : List ℕ = ranked s (m .orders) in
+    serve-front rule fair terms s t v (kept-by a xs) m b (sorted-front s t up (kept-by a xs) (kept-sorted s a xs (best-first-sorted s (prices s (m .orders)))))
+    (λ x e h. kept-in a xs x (best-first-in s (prices s (m .orders)) x (level-in s (m .orders) x h)) (narrow x e))
 
 -- every line is at a price of which P holds
 pub serve-price : (P : ℕ → Type 0) (rule : Rule) (terms : Terms) (s : Side) (v : ℕ) (ks : List Kind) (m : Step) → All (λ k. P (line-price terms k)) ks → All (λ l. P (l .price)) (m .tape) → All (λ l. P (l .price)) (serve rule terms s v ks m .tape)

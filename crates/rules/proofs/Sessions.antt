@@ -1,0 +1,168 @@
+-- What an entry that meets an open book keeps.
+use mathlib.Core.Path.{_≡_, refl, sym, ap, _∙_}
+use mathlib.Core.Bool.{Bool, true, false, cond, not, _&&_}
+use mathlib.Core.Logic.{inl, inr}
+use mathlib.Core.List.{List, [], _∷_, map}
+use Prim.Native.Nat.{ℕ, _+_, _-_, _≤_, _<_, min}
+use native.Mathlib.Omega.{arith}
+use lib.Dec.{eqb}
+use Rattle.std.specs.shelf.Lists.{kept-by, All}
+use Rattle.std.proofs.shelf.Tests.{cases-eq, cases-bool, cond-true, cond-false, eq-eqb, ne-eqb}
+use Rattle.std.proofs.shelf.Ways.{tells}
+use Rattle.std.proofs.shelf.Elements.{kept-by-passes, all-weaker}
+use Rattle.std.specs.declared.option.Option.{Option}
+use Rattle.std.specs.declared.option.Option.the-variants.{Some, None}
+use Rattle.policy.specs.Fair.{Rule, Fairly}
+use Rattle.rules.specs.declared.order.Side.{Side}
+use Rattle.rules.specs.declared.order.Side.the-variants.{Bid, Offer}
+use Rattle.rules.specs.declared.order.Kind.{Kind}
+use Rattle.rules.specs.declared.order.Kind.the-variants.{Limit, OnOpen}
+use Rattle.rules.specs.declared.order.Order.{Order}
+use Rattle.rules.specs.declared.tape.Terms.the-variants.{Entry}
+use Rattle.rules.specs.Sides.{is, other, better-than, as-good-as}
+use Rattle.rules.specs.Orders.{held, priced, limits, ahead, all-of, prices, same, at, Book}
+use Rattle.rules.specs.Trades.{ranked, lined}
+use Rattle.rules.specs.Session.{Incoming, accepts, reach, met}
+use Rattle.rules.specs.Laws.{In}
+use Rattle.rules.proofs.Held.{limits-split, limits-le, within-ahead, in-level}
+use Rattle.rules.proofs.Filled.{account, side-held, of-kind, line-price}
+use Rattle.rules.proofs.Served.{at-level, Upper, serve-some, serve-price, serve-book, serve-le, serve-account, serve-beside}
+use Rattle.rules.proofs.Crossed.{side-split}
+use Rattle.rules.proofs.Openings.{upper-better, upper-good}
+
+-- ---- what an entry accepts
+
+-- a better price is accepted too
+pub accepts-upper : (s : Side) (limit : Option ℕ) → Upper (other s) (accepts s limit)
+accepts-upper s None x y b f = f
+accepts-upper Bid (Some q) x y b f = grind (arith, tells)
+accepts-upper Offer (Some q) x y b f = grind (arith, tells)
+
+good-accepted : (s : Side) (limit : Option ℕ) (x y : ℕ) → accepts s limit x ≡ true → as-good-as (other s) x y ≡ true → accepts s limit y ≡ true
+good-accepted s None x y a g = refl
+good-accepted Bid (Some q) x y a g = grind (arith, tells)
+good-accepted Offer (Some q) x y a g = grind (arith, tells)
+
+better-good : (s : Side) (x y : ℕ) → better-than s x y ≡ true → as-good-as s x y ≡ true
+better-good Bid x y h = grind (arith, tells)
+better-good Offer x y h = grind (arith, tells)
+
+parts : (c : Bool) (n : ℕ) → n ≡ cond c n 0 + cond (not c) n 0
+parts true n = omega arith
+parts false n = omega arith
+
+-- a side's limit orders are those that pass and those that do not
+limits-both : (s : Side) (a : ℕ → Bool) (os : List Order) → all-of s os ≡ limits s a os + limits s (λ x. not (a x)) os
+limits-both s a os = limits-split s (λ x. true) a (λ x. not (a x)) (λ x n. parts (a x) n) os
+
+not-accepted : (s : Side) (b : Bool) → b ≡ true → (is s s && not b) ≡ false
+not-accepted Bid b e = ap not e
+not-accepted Offer b e = ap not e
+
+no-limit : (s : Side) (x : ℕ) → (is s s && same OnOpen (Limit x)) ≡ false
+no-limit Bid x = refl
+no-limit Offer x = refl
+
+is-other : (s : Side) (b : Bool) → (is s (other s) && b) ≡ false
+is-other Bid b = refl
+is-other Offer b = refl
+
+other-side : (s : Side) → is (other s) (other (other s)) ≡ false
+other-side Bid = refl
+other-side Offer = refl
+
+own-line : (s : Side) → is s (other (other s)) ≡ true
+own-line Bid = refl
+own-line Offer = refl
+
+one-price : (t : ℕ → Bool) (x y n : ℕ) → t x ≡ true → cond (eqb x y) n 0 ≤ cond (t y) n 0
+one-price t x y n h = elim (cases-eq x y) [
+  | inl e ↦ (let u : t y ≡ true = ap t (sym e) ∙ h in rw (u, eq-eqb x y e) (omega arith))
+  | inr ne ↦ rw (ne-eqb x y ne) (omega arith)
+]
+
+-- ---- the walk over the accepted levels
+
+module _ (rule : Rule) (fair : Fairly rule) (e : Incoming) (os : List Order) (b : Book os) where
+  abbrev far : Side
+  far = other (e .side)
+
+  abbrev accepted : ℕ → Bool
+  accepted = accepts (e .side) (e .limit)
+
+  abbrev xs : List ℕ
+  xs = kept-by accepted (ranked far os)
+
+  all-accepted : All (λ x. accepted x ≡ true) xs
+  all-accepted = kept-by-passes accepted (ranked far os)
+
+  pub met-book : Book (met rule e os .orders)
+  met-book = serve-book rule fair (Entry (e .number)) far (e .lots) (map Limit xs) (record { orders = os; tape = [] }) b
+
+  -- of accepted prices, the better first
+  pub met-left : (t : ℕ → Bool) → Upper far t → ((x : ℕ) → t x ≡ true → accepted x ≡ true) → limits far t (met rule e os .orders) ≡ limits far t os - e .lots
+  met-left t up narrow = serve-some rule fair (Entry (e .number)) far accepted t up narrow (e .lots) (record { orders = os; tape = [] }) b
+
+  pub met-reach : reach e (met rule e os .orders) ≡ reach e os - e .lots
+  met-reach = met-left accepted (accepts-upper (e .side) (e .limit)) (λ x h. h)
+
+  -- what no accepted level holds stays as it is
+  pub met-beside : (T : Side → Kind → Bool) → ((x : ℕ) → accepted x ≡ true → T far (Limit x) ≡ false) → of-kind T (met rule e os .orders) ≡ of-kind T os
+  met-beside T h = serve-beside rule fair (Entry (e .number)) far (e .lots) xs (record { orders = os; tape = [] }) b T (all-weaker (λ x. accepted x ≡ true) (λ x. T far (Limit x) ≡ false) h xs all-accepted)
+
+  -- the entry's own side stays as it is
+  pub met-own-side : (t : Kind → Bool) → held (λ o. is (e .side) (o .side) && t (o .kind)) (met rule e os .orders) ≡ held (λ o. is (e .side) (o .side) && t (o .kind)) os
+  met-own-side t = met-beside (λ side kind. is (e .side) side && t kind) (λ x _. is-other (e .side) (t (Limit x)))
+
+  -- the lesser of the entry's lots and those within reach trades
+  pub met-traded : side-held far os - side-held far (met rule e os .orders) ≡ min (e .lots) (reach e os)
+  met-traded =
+      let left : List Order = met rule e os .orders in
+      let beyond = met-beside (λ side kind. is far side && priced (λ x. not (accepted x)) kind) (λ x h. not-accepted far (accepted x) h) in
+      let on-open = met-beside (λ side kind. is far side && same OnOpen kind) (λ x _. no-limit far x) in
+      omega (arith, side-split far os, side-split far left, limits-both far accepted os, limits-both far accepted left, met-reach)
+
+  -- no lot is lost: what the orders met have no more is on their lines, and as much on the entry's
+  pub met-account : (t : ℕ → Side → Bool) → account t (met rule e os) ≡ held (λ o. t (o .number) (o .side)) os + cond (t (e .number) (other far)) (min (e .lots) (reach e os)) 0
+  met-account t = omega (
+    arith,
+    serve-account rule fair (Entry (e .number)) far (e .lots) xs (record { orders = os; tape = [] }) b t,
+    ap (λ n. cond (t (e .number) (other far)) n 0) met-traded,
+  )
+
+  -- as many lots are bought as sold
+  pub met-even : (lined (λ n side. is far side) (met rule e os .tape) ≡ min (e .lots) (reach e os)) × (lined (λ n side. is (e .side) side) (met rule e os .tape) ≡ min (e .lots) (reach e os))
+  met-even =
+      let n : ℕ = min (e .lots) (reach e os) in (
+        omega (arith, met-account (λ i side. is far side), met-traded, cond-false (is far (other far)) n 0 (other-side (e .side)), serve-le rule fair (Entry (e .number)) far (e .lots) (map Limit xs) (record { orders = os; tape = [] }) b (λ side kind. is far side)),
+        omega (arith, met-account (λ i side. is (e .side) side), cond-true (is (e .side) (other far)) n 0 (own-line (e .side)), side-split (e .side) os, side-split (e .side) (met rule e os .orders), met-own-side (priced (λ x. true)), met-own-side (same OnOpen)),
+      )
+
+  -- every line is at a price that the entry accepts
+  pub met-price : All (λ l. accepted (l .price) ≡ true) (met rule e os .tape)
+  met-price = serve-price (λ x. accepted x ≡ true) rule (Entry (e .number)) far (e .lots) (map Limit xs) (record { orders = os; tape = [] }) (at-limits xs all-accepted) tt
+    where
+      at-limits : (ys : List ℕ) → All (λ x. accepted x ≡ true) ys → All (λ k. accepted (line-price (Entry (e .number)) k) ≡ true) (map Limit ys)
+      at-limits [] a = tt
+      at-limits (y ∷ ys) a = (a .0, at-limits ys (a .1))
+
+  -- an accepted level trades the lesser of what it holds and what is left after all better levels
+  pub met-level : (x : ℕ) → accepted x ≡ true → held (at far (Limit x)) (met rule e os .orders) + min (held (at far (Limit x)) os) (e .lots - ahead far os x) ≡ held (at far (Limit x)) os
+  met-level x a =
+      let left : List Order = met rule e os .orders in
+      omega (
+        arith,
+        met-left (better-than far x) (upper-better far x) (λ y h. good-accepted (e .side) (e .limit) x y a (better-good far x y h)),
+        met-left (as-good-as far x) (upper-good far x) (λ y h. good-accepted (e .side) (e .limit) x y a h),
+        within-ahead far os x,
+        within-ahead far left x,
+        at-level far x os,
+        at-level far x left,
+      )
+
+  -- where lots of the entry are left, no price that it accepts is
+  pub met-clear : reach e os < e .lots → (x : ℕ) → In x (prices far (met rule e os .orders)) → accepted x ≡ false
+  met-clear h x i = elim (cases-bool (accepted x)) [
+    | inr left-out ↦ left-out
+    | inl taken-in ↦ absurd (omega (arith, met-reach, in-level far (met rule e os .orders) (met-book .sound) x i, limits-le far (λ y. eqb x y) accepted (λ y n. one-price accepted x y n taken-in) (met rule e os .orders)))
+  ]

@@ -239,12 +239,17 @@ module _ (rule : Rule) (fair : Fairly rule) (s : Side) (v : ℕ) (k : Kind) (os 
   shares-sum = answer .adds ∙ ap (min v) (queue-total s k os)
 
 module _ (rule : Rule) (fair : Fairly rule) (terms : Terms) (s : Side) (v : ℕ) (k : Kind) (m : Step) (b : Book (m .orders)) where
+  pub fill-length : length (fill rule terms s v k m .orders) ≤ length (m .orders)
+  fill-length =
+      let gs : List ℕ = shares rule (queue s k (m .orders)) v in
+      omega (arith, kept-length (λ o. ltb 0 (o .lots)) (taken s k gs (m .orders)), taken-length s k gs (m .orders))
+
   pub fill-book : Book (fill rule terms s v k m .orders)
   fill-book =
       let gs : List ℕ = shares rule (queue s k (m .orders)) v in
       record {
         sound = standing-sound (taken s k gs (m .orders)) (taken-loose s k gs (m .orders) (loose (m .orders) (b .sound)));
-        few = omega (arith, kept-length (λ o. ltb 0 (o .lots)) (taken s k gs (m .orders)), taken-length s k gs (m .orders), b .few);
+        few = omega (arith, fill-length, b .few);
       }
 
   -- no lot is lost: what an order has no more is on its line, and as much on the entry's

@@ -6,6 +6,7 @@ use mathlib.Core.List.{List, [], _∷_, map}
 use Prim.Native.Nat.{ℕ, _+_, _-_, _≤_, _<_, min}
 use native.Mathlib.Omega.{arith}
 use lib.Dec.{eqb}
+use lib.ListN.{length}
 use Rattle.std.specs.shelf.Lists.{kept-by, All}
 use Rattle.std.proofs.shelf.Tests.{cases-lt, cases-bool, cond-both, cond-true, cond-false, eq-eqb}
 use Rattle.std.proofs.shelf.Ways.{tells}
@@ -23,7 +24,7 @@ use Rattle.rules.specs.Trades.{Step, fill, serve, into, best-first, ranked, le
 use Rattle.rules.specs.Laws.{In}
 use Rattle.rules.proofs.Held.{lots-at, level-in}
 use Rattle.rules.proofs.Prices.{kept-in}
-use Rattle.rules.proofs.Filled.{limit-writes, own, own-none, own-sum, is-self, account, side-held, of-kind, line-price, fill-none, fill-book, fill-account, fill-kind, fill-price}
+use Rattle.rules.proofs.Filled.{limit-writes, own, own-none, own-sum, is-self, account, side-held, of-kind, line-price, fill-none, fill-length, fill-book, fill-account, fill-kind, fill-price}
 
 -- ---- a level by its price
 
@@ -73,6 +74,10 @@ module _ (rule : Rule) (fair : Fairly rule) (terms : Terms) (s : Side) where
   pub serve-book : (v : ℕ) (ks : List Kind) (m : Step) → Book (m .orders) → Book (serve rule terms s v ks m .orders)
   serve-book v [] m b = b
   serve-book v (k ∷ ks) m b = serve-book (v - held (at s k) (m .orders)) ks (fill rule terms s v k m) (fill-book rule fair terms s v k m b)
+
+  pub serve-length : (v : ℕ) (ks : List Kind) (m : Step) → Book (m .orders) → length (serve rule terms s v ks m .orders) ≤ length (m .orders)
+  serve-length v [] m b = omega arith
+  serve-length v (k ∷ ks) m b = omega (arith, serve-length (v - held (at s k) (m .orders)) ks (fill rule terms s v k m) (fill-book rule fair terms s v k m b), fill-length rule fair terms s v k m b)
 
   pub serve-le : (v : ℕ) (ks : List Kind) (m : Step) → Book (m .orders) → (T : Side → Kind → Bool) → of-kind T (serve rule terms s v ks m .orders) ≤ of-kind T (m .orders)
   serve-le v [] m b T = omega arith

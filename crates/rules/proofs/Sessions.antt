@@ -2,12 +2,13 @@
 use mathlib.Core.Path.{_≡_, refl, sym, ap, _∙_}
 use mathlib.Core.Bool.{Bool, true, false, cond, not, _&&_}
 use mathlib.Core.Logic.{inl, inr}
-use mathlib.Core.List.{List, [], _∷_, map}
+use mathlib.Core.List.{List, [], _∷_, _++_, map}
 use Prim.Native.Nat.{ℕ, _+_, _-_, _≤_, _<_, min}
 use native.Mathlib.Omega.{arith}
-use lib.Dec.{eqb}
+use lib.Dec.{ltb, eqb}
+use lib.ListN.{length}
 use Rattle.std.specs.shelf.Lists.{kept-by, All}
-use Rattle.std.proofs.shelf.Tests.{cases-eq, cases-bool, cond-true, cond-false, eq-eqb, ne-eqb}
+use Rattle.std.proofs.shelf.Tests.{cases-eq, cases-bool, cond-both, cond-true, cond-false, ltb-false, eq-eqb, ne-eqb}
 use Rattle.std.proofs.shelf.Ways.{tells}
 use Rattle.std.proofs.shelf.Elements.{kept-by-passes, all-weaker}
 use Rattle.std.specs.declared.option.Option.{Option}
@@ -19,10 +20,12 @@ use Rattle.rules.specs.declared.order.Kind.{Kind}
 use Rattle.rules.specs.declared.order.Kind.the-variants.{Limit, OnOpen}
 use Rattle.rules.specs.declared.order.Order.{Order}
 use Rattle.rules.specs.declared.tape.Terms.the-variants.{Entry}
+use Rattle.rules.specs.Limits.{lowest-price, highest-price, most-orders}
 use Rattle.rules.specs.Sides.{is, other, better-than, as-good-as}
 use Rattle.rules.specs.Orders.{held, priced, limits, ahead, all-of, prices, same, at, Book}
+use Rattle.rules.specs.Price.{traded}
 use Rattle.rules.specs.Trades.{ranked, lined}
-use Rattle.rules.specs.Session.{Incoming, accepts, reach, met}
+use Rattle.rules.specs.Session.{Incoming, accepts, reach, enough, met, rests, resting, Matched, matched}
 use Rattle.rules.specs.Laws.{In}
 use Rattle.rules.proofs.Held.{limits-split, limits-le, within-ahead, in-level}
 use Rattle.rules.proofs.Filled.{account, side-held, of-kind, line-price}
@@ -90,14 +93,14 @@ module _ (rule : Rule) (fair : Fairly rule) (e : Incoming) (os : List Order) (b 
   abbrev accepted : ℕ → Bool
   accepted = accepts (e .side) (e .limit)
 
-  abbrev xs : List ℕ
-  xs = kept-by accepted (ranked far os)
+  abbrev met-prices : List ℕ
+  met-prices = kept-by accepted (ranked far os)
 
-  all-accepted : All (λ x. accepted x ≡ true) xs
+  all-accepted : All (λ x. accepted x ≡ true) met-prices
   all-accepted = kept-by-passes accepted (ranked far os)
 
   pub met-book : Book (met rule e os .orders)
-  met-book = serve-book rule fair (Entry (e .number)) far (e .lots) (map Limit xs) (record { orders = os; tape = [] }) b
+  met-book = serve-book rule fair (Entry (e .number)) far (e .lots) (map Limit met-prices) (record { orders = os; tape = [] }) b
 
   -- of accepted prices, the better first
   pub met-left : (t : ℕ → Bool) → Upper far t → ((x : ℕ) → t x ≡ true → accepted x ≡ true) → limits far t (met rule e os .orders) ≡ limits far t os - e .lots
@@ -108,7 +111,7 @@ module _ (rule : Rule) (fair : Fairly rule) (e : Incoming) (os : List Order) (b 
 
   -- what no accepted level holds stays as it is
   pub met-beside : (T : Side → Kind → Bool) → ((x : ℕ) → accepted x ≡ true → T far (Limit x) ≡ false) → of-kind T (met rule e os .orders) ≡ of-kind T os
-  met-beside T h = serve-beside rule fair (Entry (e .number)) far (e .lots) xs (record { orders = os; tape = [] }) b T (all-weaker (λ x. accepted x ≡ true) (λ x. T far (Limit x) ≡ false) h xs all-accepted)
+  met-beside T h = serve-beside rule fair (Entry (e .number)) far (e .lots) met-prices (record { orders = os; tape = [] }) b T (all-weaker (λ x. accepted x ≡ true) (λ x. T far (Limit x) ≡ false) h met-prices all-accepted)
 
   -- the entry's own side stays as it is
   pub met-own-side : (t : Kind → Bool) → held (λ o. is (e .side) (o .side) && t (o .kind)) (met rule e os .orders) ≡ held (λ o. is (e .side) (o .side) && t (o .kind)) os
@@ -126,7 +129,7 @@ module _ (rule : Rule) (fair : Fairly rule) (e : Incoming) (os : List Order) (b 
   pub met-account : (t : ℕ → Side → Bool) → account t (met rule e os) ≡ held (λ o. t (o .number) (o .side)) os + cond (t (e .number) (other far)) (min (e .lots) (reach e os)) 0
   met-account t = omega (
     arith,
-    serve-account rule fair (Entry (e .number)) far (e .lots) xs (record { orders = os; tape = [] }) b t,
+    serve-account rule fair (Entry (e .number)) far (e .lots) met-prices (record { orders = os; tape = [] }) b t,
     ap (λ n. cond (t (e .number) (other far)) n 0) met-traded,
   )
 
@@ -134,13 +137,13 @@ module _ (rule : Rule) (fair : Fairly rule) (e : Incoming) (os : List Order) (b 
   pub met-even : (lined (λ n side. is far side) (met rule e os .tape) ≡ min (e .lots) (reach e os)) × (lined (λ n side. is (e .side) side) (met rule e os .tape) ≡ min (e .lots) (reach e os))
   met-even =
       let n : ℕ = min (e .lots) (reach e os) in (
-        omega (arith, met-account (λ i side. is far side), met-traded, cond-false (is far (other far)) n 0 (other-side (e .side)), serve-le rule fair (Entry (e .number)) far (e .lots) (map Limit xs) (record { orders = os; tape = [] }) b (λ side kind. is far side)),
+        omega (arith, met-account (λ i side. is far side), met-traded, cond-false (is far (other far)) n 0 (other-side (e .side)), serve-le rule fair (Entry (e .number)) far (e .lots) (map Limit met-prices) (record { orders = os; tape = [] }) b (λ side kind. is far side)),
         omega (arith, met-account (λ i side. is (e .side) side), cond-true (is (e .side) (other far)) n 0 (own-line (e .side)), side-split (e .side) os, side-split (e .side) (met rule e os .orders), met-own-side (priced (λ x. true)), met-own-side (same OnOpen)),
       )
 
   -- every line is at a price that the entry accepts
   pub met-price : All (λ l. accepted (l .price) ≡ true) (met rule e os .tape)
-  met-price = serve-price (λ x. accepted x ≡ true) rule (Entry (e .number)) far (e .lots) (map Limit xs) (record { orders = os; tape = [] }) (at-limits xs all-accepted) tt
+  met-price = serve-price (λ x. accepted x ≡ true) rule (Entry (e .number)) far (e .lots) (map Limit met-prices) (record { orders = os; tape = [] }) (at-limits met-prices all-accepted) tt
     where
       at-limits : (ys : List ℕ) → All (λ x. accepted x ≡ true) ys → All (λ k. accepted (line-price (Entry (e .number)) k) ≡ true) (map Limit ys)
       at-limits [] a = tt
@@ -166,3 +169,95 @@ module _ (rule : Rule) (fair : Fairly rule) (e : Incoming) (os : List Order) (b 
     | inr left-out ↦ left-out
     | inl taken-in ↦ absurd (omega (arith, met-reach, in-level far (met rule e os .orders) (met-book .sound) x i, limits-le far (λ y. eqb x y) accepted (λ y n. one-price accepted x y n taken-in) (met rule e os .orders)))
   ]
+
+-- ---- the entry as a whole
+
+-- The limit of an entry is within the range of prices.
+abbrev pub Limit-in-range : Option ℕ → Type 0
+Limit-in-range None = Unit {0}
+Limit-in-range (Some q) = (lowest-price ≤ q) × (q ≤ highest-price)
+
+-- There is room for an entry that may rest.
+abbrev pub Room : Option ℕ → List Order → Type 0
+Room None os = Unit {0}
+Room (Some q) os = length os < most-orders
+
+-- No bid meets an offer.
+abbrev pub Uncrossed : List Order → Type 0
+Uncrossed os = (x y : ℕ) → In x (prices Bid os) → In y (prices Offer os) → x < y
+
+pub record Matching-keeps (rule : Rule) (e : Incoming) (os : List Order) : Type 0 where
+  pub all-lots : matched rule e os .traded + matched rule e os .withdrawn + matched rule e os .«open» ≡ e .lots
+  -- no lot is lost, whichever orders are looked at by number and side
+  pub conserved : (t : ℕ → Side → Bool) → held (λ o. t (o .number) (o .side)) os + cond (t (e .number) (e .side)) (e .lots) 0 ≡ held (λ o. t (o .number) (o .side)) (matched rule e os .orders) + lined t (matched rule e os .tape) + cond (t (e .number) (e .side)) (matched rule e os .withdrawn) 0
+  -- as many lots are bought as sold: those the entry traded
+  pub even : (s : Side) → lined (λ n side. is s side) (matched rule e os .tape) ≡ matched rule e os .traded
+  -- every line is at a price that the entry accepts
+  pub accepted-prices : All (λ l. accepts (e .side) (e .limit) (l .price) ≡ true) (matched rule e os .tape)
+
+held-append : (t : Order → Bool) (os ps : List Order) → held t (os ++ ps) ≡ held t os + held t ps
+held-append t [] ps = omega arith
+held-append t (o ∷ os) ps = omega (arith, held-append t os ps)
+
+cond-none : (b : Bool) → _≡_ {A = ℕ} (cond b 0 0) 0
+cond-none true = refl
+cond-none false = refl
+
+rest-held : (t : ℕ → Side → Bool) (e : Incoming) (limit : Option ℕ) (n : ℕ) → held (λ o. t (o .number) (o .side)) (resting e limit n) ≡ cond (t (e .number) (e .side)) (cond (rests limit (e .condition)) n 0) 0
+rest-held t e None n = sym (cond-none (t (e .number) (e .side)))
+rest-held t e (Some q) n = go (rests (Some q) (e .condition))
+  where
+    go : (r : Bool) → held (λ o. t (o .number) (o .side)) (cond (r && ltb 0 n) (record { number = e .number; id = e .id; side = e .side; kind = Limit q; lots = n; lifetime = e .lifetime } ∷ []) []) ≡ cond (t (e .number) (e .side)) (cond r n 0) 0
+    go true = cond-both (ltb 0 n) (record { number = e .number; id = e .id; side = e .side; kind = Limit q; lots = n; lifetime = e .lifetime } ∷ []) [] (λ (os : List Order). held (λ o. t (o .number) (o .side)) os ≡ cond (t (e .number) (e .side)) n 0)
+        (λ _. omega arith)
+        (λ none. omega (arith, ltb-false 0 n none, cond-both (t (e .number) (e .side)) n 0 (λ m. m ≤ n) (λ _. omega arith) (λ _. omega arith)))
+    go false = sym (cond-none (t (e .number) (e .side)))
+
+cond-parts : (c r : Bool) (n m : ℕ) → cond c (n + m) 0 ≡ cond c n 0 + cond c (cond r m 0) 0 + cond c (cond r 0 m) 0
+cond-parts true true n m = omega arith
+cond-parts true false n m = omega arith
+cond-parts false r n m = refl
+
+lots-parts : (r : Bool) (n m : ℕ) → n + cond r 0 m + cond r m 0 ≡ n + m
+lots-parts true n m = omega arith
+lots-parts false n m = omega arith
+
+other-other : (s : Side) → other (other s) ≡ s
+other-other Bid = refl
+other-other Offer = refl
+
+both-sides : (P : Side → Type 0) (s : Side) → P (other s) → P s → (s′ : Side) → P s′
+both-sides P Bid far near Bid = near
+both-sides P Bid far near Offer = far
+both-sides P Offer far near Bid = far
+both-sides P Offer far near Offer = near
+
+module _ (rule : Rule) (fair : Fairly rule) (e : Incoming) (os : List Order) (b : Book os) where
+  rest-account : (t : ℕ → Side → Bool) → held (λ o. t (o .number) (o .side)) os + cond (t (e .number) (e .side)) (e .lots) 0 ≡ held (λ o. t (o .number) (o .side)) (met rule e os .orders ++ resting e (e .limit) (e .lots - min (e .lots) (reach e os))) + lined t (met rule e os .tape) + cond (t (e .number) (e .side)) (cond (rests (e .limit) (e .condition)) 0 (e .lots - min (e .lots) (reach e os))) 0
+  rest-account t =
+      let n : ℕ = min (e .lots) (reach e os) in
+      let u : Order → Bool = λ o. t (o .number) (o .side) in
+      let own-is : cond (t (e .number) (other (other (e .side)))) n 0 ≡ cond (t (e .number) (e .side)) n 0 = ap (λ (s : Side). cond (t (e .number) s) n 0) (other-other (e .side)) in
+      let whole : cond (t (e .number) (e .side)) (e .lots) 0 ≡ cond (t (e .number) (e .side)) (n + (e .lots - n)) 0 = ap (λ (m : ℕ). cond (t (e .number) (e .side)) m 0) (omega arith) in
+      omega (
+        arith,
+        held-append u (met rule e os .orders) (resting e (e .limit) (e .lots - n)),
+        rest-held t e (e .limit) (e .lots - n),
+        met-account rule fair e os b t,
+        cond-parts (t (e .number) (e .side)) (rests (e .limit) (e .condition)) n (e .lots - n),
+      )
+
+  pub matching-keeps : Matching-keeps rule e os
+  matching-keeps =
+      let ok : Bool = enough (e .condition) (e .lots) (reach e os) in
+      let n : ℕ = min (e .lots) (reach e os) in
+      let A : Matched = record { orders = met rule e os .orders ++ resting e (e .limit) (e .lots - n); tape = met rule e os .tape; traded = n; withdrawn = cond (rests (e .limit) (e .condition)) 0 (e .lots - n); «open» = cond (rests (e .limit) (e .condition)) (e .lots - n) 0 } in
+      let B : Matched = record { orders = os; tape = []; traded = 0; withdrawn = e .lots; «open» = 0 } in
+      record {
+        all-lots = cond-both ok A B (λ d. d .traded + d .withdrawn + d .«open» ≡ e .lots) (λ _. omega (arith, lots-parts (rests (e .limit) (e .condition)) n (e .lots - n))) (λ _. omega arith);
+        conserved = λ t. cond-both ok A B (λ d. held (λ o. t (o .number) (o .side)) os + cond (t (e .number) (e .side)) (e .lots) 0 ≡ held (λ o. t (o .number) (o .side)) (d .orders) + lined t (d .tape) + cond (t (e .number) (e .side)) (d .withdrawn) 0)
+            (λ _. rest-account t) (λ _. omega arith);
+        even = λ s. cond-both ok A B (λ d. lined (λ n side. is s side) (d .tape) ≡ d .traded)
+            (λ _. both-sides (λ s. lined (λ n side. is s side) (met rule e os .tape) ≡ n) (e .side) (met-even rule fair e os b .0) (met-even rule fair e os b .1) s) (λ _. refl);
+        accepted-prices = cond-both ok A B (λ d. All (λ l. accepts (e .side) (e .limit) (l .price) ≡ true) (d .tape)) (λ _. met-price rule fair e os b) (λ _. tt);
+      }

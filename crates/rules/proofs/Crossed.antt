@@ -38,10 +38,11 @@ side-split s os = held-split (λ o. is s (o .side)) (λ o. is s (o .side) && pri
 
 -- ---- stage one
 
--- A stage in which w lots are bought, and as many sold.
+-- The lots of a side on a tape.
 abbrev pub side-lots : Side → List TapeLine → ℕ
 side-lots s tape = lined (λ n side. is s side) tape
 
+-- A stage in which w lots are bought, and as many sold.
 abbrev pub Trades : ℕ → Step → Step → Type 0
 Trades w m m′ = (s : Side) → side-lots s (m′ .tape) ≡ side-lots s (m .tape) + w
 

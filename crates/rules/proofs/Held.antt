@@ -3,9 +3,10 @@ use mathlib.Core.Path.{_≡_, refl}
 use mathlib.Core.Bool.{Bool, true, cond, _&&_}
 use mathlib.Core.Logic.{_⊎_, inl, inr}
 use mathlib.Core.List.{List, [], _∷_}
-use Prim.Native.Nat.{ℕ, suc, _+_, _≤_, _<_}
+use Prim.Native.Nat.{ℕ, suc, _+_, _*_, _≤_, _<_}
 use native.Mathlib.Omega.{arith}
 use lib.Dec.{leb, ltb, eqb}
+use lib.ListN.{length}
 use Rattle.std.proofs.shelf.Tests.{cases-eq, cond-both, eq-eqb, ne-eqb}
 use Rattle.std.proofs.shelf.Ways.{tells}
 use Rattle.rules.specs.declared.order.Side.{Side}
@@ -13,9 +14,9 @@ use Rattle.rules.specs.declared.order.Side.the-variants.{Bid, Offer}
 use Rattle.rules.specs.declared.order.Kind.{Kind}
 use Rattle.rules.specs.declared.order.Kind.the-variants.{Limit, OnOpen}
 use Rattle.rules.specs.declared.order.Order.{Order}
-use Rattle.rules.specs.Limits.{lowest-price, highest-price}
+use Rattle.rules.specs.Limits.{lowest-price, highest-price, most-lots, most-orders}
 use Rattle.rules.specs.Sides.{is, as-good-as}
-use Rattle.rules.specs.Orders.{held, priced, limits, ahead, within, all-of, demand, supply, price-of, prices, In-range, Sound}
+use Rattle.rules.specs.Orders.{held, priced, limits, ahead, within, all-of, demand, supply, price-of, prices, In-range, Sound, Book}
 use Rattle.rules.specs.Laws.{In}
 
 -- what passes t passes either t₁ or t₂
@@ -157,3 +158,11 @@ top OnOpen Offer n r = omega arith
 pub all-supply : (os : List Order) → Sound os → all-of Offer os ≤ supply os highest-price
 all-supply [] sound = omega arith
 all-supply (o ∷ os) sound = omega (arith, top (o .kind) (o .side) (o .lots) (sound .0 .2), all-supply os (sound .1))
+
+-- the lots of a book's orders are few enough for every sum of the code
+held-bound : (t : Order → Bool) (os : List Order) → Sound os → held t os ≤ length os * most-lots
+held-bound t [] a = omega arith
+held-bound t (o ∷ os) a = omega (arith, held-bound t os (a .1), a .0 .1, cond-both (t o) (o .lots) 0 (λ n. n ≤ o .lots) (λ _. omega arith) (λ _. omega arith))
+
+pub held-fits : (t : Order → Bool) (os : List Order) → Book os → held t os ≤ most-orders * most-lots
+held-fits t os b = omega (arith, held-bound t os (b .sound), b .few)

@@ -50,6 +50,10 @@ withdrawn-of (Some p) n os = 0
 abbrev pub start : List Order → Step
 start os = record { orders = os; tape = [] }
 
+-- No bid meets an offer.
+abbrev pub Uncrossed : List Order → Type 0
+Uncrossed os = (x y : ℕ) → In x (prices Bid os) → In y (prices Offer os) → x < y
+
 -- In each stage as many lots are bought as sold.
 pub record Stages-even (rule : Rule) (os : List Order) (p : ℕ) : Type 0 where
   pub first : Trades (volume os) (start os) (stage-one rule p (volume os) (start os))
@@ -64,8 +68,7 @@ pub record Opening-keeps (rule : Rule) (os : List Order) : Type 0 where
   pub even : (p : ℕ) → price os ≡ Some p → Stages-even rule os p
   -- before stage three no two limit orders at p could trade, nor two On-Open orders
   pub one-sided : (p : ℕ) → price os ≡ Some p → let m = cross rule p OnOpen (stage-one rule p (volume os) (start os)) in (lesser (Limit p) (m .orders) ≡ 0) × (lesser OnOpen (m .orders) ≡ 0)
-  -- no bid meets an offer any more
-  pub uncrossed : (x y : ℕ) → In x (prices Bid (opened rule os .orders)) → In y (prices Offer (opened rule os .orders)) → x < y
+  pub uncrossed : Uncrossed (opened rule os .orders)
   pub none-on-open : held on-open (opened rule os .orders) ≡ 0
   -- all that is bid at p trades with all that is offered at p
   pub total-is : (p : ℕ) → price os ≡ Some p → opened rule os .total ≡ min (demand os p + held (at Bid OnOpen) os) (supply os p + held (at Offer OnOpen) os)
@@ -103,7 +106,7 @@ beyond Offer os p x z h = elim (cases-lt x p) [
   | inr g ↦ grind (arith, tells)
 ]
 
-uncrossed-from : (p : ℕ) (os : List Order) → Sound os → Cleared p os → (x y : ℕ) → In x (prices Bid os) → In y (prices Offer os) → x < y
+uncrossed-from : (p : ℕ) (os : List Order) → Sound os → Cleared p os → Uncrossed os
 uncrossed-from p os sound c x y i j =
     let hx = in-level Bid os sound x i in
     let hy = in-level Offer os sound y j in
@@ -399,14 +402,14 @@ module _ (rule : Rule) (fair : Fairly rule) (os : List Order) (b : Book os) wher
       let a = subst (λ (m : Step). account (λ i s. eqb n i) m ≡ account (λ i s. eqb n i) (start os)) (end-is rule fair os b p k) (end-account rule fair os b p k (λ i s. eqb n i)) in
       omega arith
 
-  uncrossed-at : (o : Option ℕ) → price os ≡ o → (x y : ℕ) → In x (prices Bid (opened-at rule os (volume os) o .orders)) → In y (prices Offer (opened-at rule os (volume os) o .orders)) → x < y
+  uncrossed-at : (o : Option ℕ) → price os ≡ o → Uncrossed (opened-at rule os (volume os) o .orders)
   uncrossed-at None e = λ x y i j. elim (no-price os e .1) [
     | inl z ↦ absurd (no-side Bid os (b .sound) z x i)
     | inr z ↦ absurd (no-side Offer os (b .sound) z y j)
   ]
   uncrossed-at (Some p) e =
       let k = kept p e in
-      subst (λ (m : Step). (x y : ℕ) → In x (prices Bid (m .orders)) → In y (prices Offer (m .orders)) → x < y) (end-is rule fair os b p k)
+      subst (λ (m : Step). Uncrossed (m .orders)) (end-is rule fair os b p k)
       (uncrossed-from p (end rule fair os b p k .orders) (end-book rule fair os b p k .sound) (end-cleared rule fair os b p k))
 
   none-at : (o : Option ℕ) → price os ≡ o → held on-open (opened-at rule os (volume os) o .orders) ≡ 0

@@ -1,16 +1,17 @@
 -- What an entry that meets an open book keeps.
-use mathlib.Core.Path.{_≡_, refl, sym, ap, _∙_}
+use mathlib.Core.Path.{_≡_, refl, sym, ap, subst, _∙_}
 use mathlib.Core.Bool.{Bool, true, false, cond, not, _&&_}
-use mathlib.Core.Logic.{inl, inr}
+use mathlib.Core.Logic.{_⊎_, inl, inr}
 use mathlib.Core.List.{List, [], _∷_, _++_, map}
 use Prim.Native.Nat.{ℕ, _+_, _-_, _≤_, _<_, min}
 use native.Mathlib.Omega.{arith}
 use lib.Dec.{ltb, eqb}
 use lib.ListN.{length}
 use Rattle.std.specs.shelf.Lists.{kept-by, All}
-use Rattle.std.proofs.shelf.Tests.{cases-eq, cases-bool, cond-both, cond-true, cond-false, ltb-false, eq-eqb, ne-eqb}
+use Rattle.std.proofs.shelf.Lists.{append-nil}
+use Rattle.std.proofs.shelf.Tests.{cases-eq, cases-lt, cases-bool, cond-both, cond-true, cond-false, ltb-true, ltb-false, leb-false, eq-eqb, ne-eqb, and-parts}
 use Rattle.std.proofs.shelf.Ways.{tells}
-use Rattle.std.proofs.shelf.Elements.{kept-by-passes, all-weaker}
+use Rattle.std.proofs.shelf.Elements.{kept-by-passes, all-weaker, all-append}
 use Rattle.std.specs.declared.option.Option.{Option}
 use Rattle.std.specs.declared.option.Option.the-variants.{Some, None}
 use Rattle.policy.specs.Fair.{Rule, Fairly}
@@ -20,18 +21,18 @@ use Rattle.rules.specs.declared.order.Kind.{Kind}
 use Rattle.rules.specs.declared.order.Kind.the-variants.{Limit, OnOpen}
 use Rattle.rules.specs.declared.order.Order.{Order}
 use Rattle.rules.specs.declared.tape.Terms.the-variants.{Entry}
-use Rattle.rules.specs.Limits.{lowest-price, highest-price, most-orders}
+use Rattle.rules.specs.Limits.{lowest-price, highest-price, most-lots, most-orders}
 use Rattle.rules.specs.Sides.{is, other, better-than, as-good-as}
-use Rattle.rules.specs.Orders.{held, priced, limits, ahead, all-of, prices, same, at, Book}
+use Rattle.rules.specs.Orders.{held, priced, limits, ahead, all-of, prices, same, at, In-range, Book}
 use Rattle.rules.specs.Price.{traded}
 use Rattle.rules.specs.Trades.{ranked, lined}
 use Rattle.rules.specs.Session.{Incoming, accepts, reach, enough, met, rests, resting, Matched, matched}
 use Rattle.rules.specs.Laws.{In}
-use Rattle.rules.proofs.Held.{limits-split, limits-le, within-ahead, in-level}
+use Rattle.rules.proofs.Held.{limits-split, limits-le, lots-at, within-ahead, level-in, in-level}
 use Rattle.rules.proofs.Filled.{account, side-held, of-kind, line-price}
-use Rattle.rules.proofs.Served.{at-level, Upper, serve-some, serve-price, serve-book, serve-le, serve-account, serve-beside}
+use Rattle.rules.proofs.Served.{at-level, Upper, serve-some, serve-price, serve-book, serve-length, serve-le, serve-account, serve-beside}
 use Rattle.rules.proofs.Crossed.{side-split}
-use Rattle.rules.proofs.Openings.{upper-better, upper-good}
+use Rattle.rules.proofs.Openings.{Uncrossed, upper-better, upper-good}
 
 -- ---- what an entry accepts
 
@@ -182,10 +183,6 @@ abbrev pub Room : Option ℕ → List Order → Type 0
 Room None os = Unit {0}
 Room (Some q) os = length os < most-orders
 
--- No bid meets an offer.
-abbrev pub Uncrossed : List Order → Type 0
-Uncrossed os = (x y : ℕ) → In x (prices Bid os) → In y (prices Offer os) → x < y
-
 pub record Matching-keeps (rule : Rule) (e : Incoming) (os : List Order) : Type 0 where
   pub all-lots : matched rule e os .traded + matched rule e os .withdrawn + matched rule e os .«open» ≡ e .lots
   -- no lot is lost, whichever orders are looked at by number and side
@@ -261,3 +258,91 @@ module _ (rule : Rule) (fair : Fairly rule) (e : Incoming) (os : List Order) (b 
             (λ _. both-sides (λ s. lined (λ n side. is s side) (met rule e os .tape) ≡ n) (e .side) (met-even rule fair e os b .0) (met-even rule fair e os b .1) s) (λ _. refl);
         accepted-prices = cond-both ok A B (λ d. All (λ l. accepts (e .side) (e .limit) (l .price) ≡ true) (d .tape)) (λ _. met-price rule fair e os b) (λ _. tt);
       }
+
+-- ---- the book that a matched entry leaves
+
+abbrev rest-order : Incoming → ℕ → ℕ → Order
+rest-order e q n = record { number = e .number; id = e .id; side = e .side; kind = Limit q; lots = n; lifetime = e .lifetime }
+
+-- what holds where nothing rests, and where n lots rest at q
+rest-both : (P : List Order → Type 0) (e : Incoming) (limit : Option ℕ) (n : ℕ) → P [] → ((q : ℕ) → limit ≡ Some q → 0 < n → P (rest-order e q n ∷ [])) → P (resting e limit n)
+rest-both P e None n none some = none
+rest-both P e (Some q) n none some = cond-both (rests (Some q) (e .condition) && ltb 0 n) (rest-order e q n ∷ []) [] P
+    (λ h. some q refl (ltb-true 0 n (and-parts (rests (Some q) (e .condition)) (ltb 0 n) h .1)))
+    (λ _. none)
+
+length-append : (os ps : List Order) → length (os ++ ps) ≡ length os + length ps
+length-append [] ps = omega arith
+length-append (o ∷ os) ps = omega (arith, length-append os ps)
+
+some-range : (limit : Option ℕ) (q : ℕ) → limit ≡ Some q → Limit-in-range limit → (lowest-price ≤ q) × (q ≤ highest-price)
+some-range limit q is-q h = subst Limit-in-range is-q h
+
+some-room : (limit : Option ℕ) (os : List Order) (q : ℕ) → limit ≡ Some q → Room limit os → length os < most-orders
+some-room limit os q is-q h = subst (λ l. Room l os) is-q h
+
+rest-level : (s s′ : Side) (q x n : ℕ) → 0 < cond (is s s′ && eqb x q) n 0 + 0 → (s′ ≡ s) × (x ≡ q)
+rest-level Bid Bid q x n h = elim (cases-eq x q) [ inl same-price ↦ (refl, same-price) | inr ne ↦ (let z = ne-eqb x q ne in absurd (let bad : ⊥ = grind arith in bad)) ]
+rest-level Bid Offer q x n h = absurd (omega arith)
+rest-level Offer Bid q x n h = absurd (omega arith)
+rest-level Offer Offer q x n h = elim (cases-eq x q) [ inl same-price ↦ (refl, same-price) | inr ne ↦ (let z = ne-eqb x q ne in absurd (let bad : ⊥ = grind arith in bad)) ]
+
+module _ (rule : Rule) (fair : Fairly rule) (e : Incoming) (os : List Order) (b : Book os) (small : e .lots ≤ most-lots) (range : Limit-in-range (e .limit)) (room : Room (e .limit) os) where
+  rest-book : (n : ℕ) → n ≤ e .lots → Book (met rule e os .orders ++ resting e (e .limit) n)
+  rest-book n le =
+      let left : List Order = met rule e os .orders in
+      let lb = met-book rule fair e os b in
+      let len : length left ≤ length os = serve-length rule fair (Entry (e .number)) (other (e .side)) (e .lots) (map Limit (kept-by (accepts (e .side) (e .limit)) (ranked (other (e .side)) os))) (record { orders = os; tape = [] }) b in
+      rest-both (λ ps. Book (left ++ ps)) e (e .limit) n
+      (subst Book (sym (append-nil left)) lb)
+      (λ q is-q pos.
+      let r = some-range (e .limit) q is-q range in
+      let f = some-room (e .limit) os q is-q room in
+      record {
+        sound = all-append (λ o. (1 ≤ o .lots) × (o .lots ≤ most-lots) × In-range (o .kind)) left (rest-order e q n ∷ []) (lb .sound) ((pos, omega arith, r), tt);
+        few = omega (arith, length-append left (rest-order e q n ∷ []));
+      })
+
+  pub matching-book : Book (matched rule e os .orders)
+  matching-book =
+      let n : ℕ = min (e .lots) (reach e os) in
+      cond-both (enough (e .condition) (e .lots) (reach e os)) _ _ (λ (d : Matched). Book (d .orders)) (λ _. rest-book (e .lots - n) (omega arith)) (λ _. b)
+
+  rest-at : (s : Side) (x n : ℕ) → (0 < n → reach e os < e .lots) → 0 < lots-at s (resting e (e .limit) n) x → (e .side ≡ s) × (e .limit ≡ Some x) × (reach e os < e .lots)
+  rest-at s x n some-left = rest-both (λ ps. 0 < lots-at s ps x → (e .side ≡ s) × (e .limit ≡ Some x) × (reach e os < e .lots)) e (e .limit) n
+      (λ h. absurd (let never : ⊥ = omega arith in never))
+      (λ q is-q pos h. let r = rest-level s (e .side) q x n h in (r .0, is-q ∙ ap Some (sym (r .1)), some-left pos))
+
+  -- a price left is one of the orders met, or that of the rest, which then meets none it accepts
+  left-from : (s : Side) (x : ℕ) → In x (prices s (met rule e os .orders ++ resting e (e .limit) (e .lots - min (e .lots) (reach e os)))) → (0 < lots-at s (met rule e os .orders) x) ⊎ ((e .side ≡ s) × (e .limit ≡ Some x) × (reach e os < e .lots))
+  left-from s x i =
+      let n : ℕ = e .lots - min (e .lots) (reach e os) in
+      let left : List Order = met rule e os .orders in
+      let h = in-level s (left ++ resting e (e .limit) n) (rest-book n (omega arith) .sound) x i in
+      let sum = held-append (λ o. is s (o .side) && priced (λ y. eqb x y) (o .kind)) left (resting e (e .limit) n) in
+      elim (cases-lt 0 (lots-at s left x)) [
+        | inl some ↦ inl some
+        | inr none ↦ inr (rest-at s x n (λ pos. omega arith) (omega arith))
+      ]
+
+  old-price : (s : Side) (x : ℕ) → 0 < lots-at s (met rule e os .orders) x → In x (prices s os)
+  old-price s x h = level-in s os x (omega (arith, serve-le rule fair (Entry (e .number)) (other (e .side)) (e .lots) (map Limit (kept-by (accepts (e .side) (e .limit)) (ranked (other (e .side)) os))) (record { orders = os; tape = [] }) b (λ side kind. is s side && priced (λ y. eqb x y) kind)))
+
+  clear-of : (s : Side) (x y : ℕ) → e .side ≡ s → e .limit ≡ Some x → reach e os < e .lots → 0 < lots-at (other s) (met rule e os .orders) y → accepts s (Some x) y ≡ false
+  clear-of s x y is-s is-x more =
+      let base : 0 < lots-at (other (e .side)) (met rule e os .orders) y → accepts (e .side) (e .limit) y ≡ false = λ h. met-clear rule fair e os b more y (level-in (other (e .side)) (met rule e os .orders) y h) in
+      subst (λ (z : Side). 0 < lots-at (other z) (met rule e os .orders) y → accepts z (Some x) y ≡ false) is-s (subst (λ (l : Option ℕ). 0 < lots-at (other (e .side)) (met rule e os .orders) y → accepts (e .side) l y ≡ false) is-x base)
+
+  pub matching-uncrossed : Uncrossed os → Uncrossed (matched rule e os .orders)
+  matching-uncrossed before = cond-both (enough (e .condition) (e .lots) (reach e os)) _ _ (λ (d : Matched). Uncrossed (d .orders))
+      (λ _ x y i j. elim (left-from Bid x i) [
+        | inl bid ↦ elim (left-from Offer y j) [
+          | inl offer ↦ before x y (old-price Bid x bid) (old-price Offer y offer)
+          | inr rest ↦ leb-false y x (clear-of Offer y x (rest .0) (rest .1) (rest .2) bid)
+        ]
+        | inr rest ↦ elim (left-from Offer y j) [
+          | inl offer ↦ leb-false y x (clear-of Bid x y (rest .0) (rest .1) (rest .2) offer)
+          | inr both ↦ (let z : _≡_ {A = ℕ} 0 1 = cc (rest .0, both .0) in absurd (let never : ⊥ = omega arith in never))
+        ]
+      ])
+      (λ _. before)

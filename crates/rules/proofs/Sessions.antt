@@ -6,7 +6,7 @@ use mathlib.Core.List.{List, [], _∷_, _++_, map}
 use Prim.Native.Nat.{ℕ, _+_, _-_, _≤_, _<_, min}
 use native.Mathlib.Omega.{arith}
 use lib.Dec.{ltb, eqb}
-use lib.ListN.{length}
+use lib.ListN.{length, length-append}
 use Rattle.std.specs.shelf.Lists.{kept-by, All}
 use Rattle.std.proofs.shelf.Lists.{append-nil}
 use Rattle.std.proofs.shelf.Tests.{cases-eq, cases-lt, cases-bool, cond-both, cond-true, cond-false, ltb-true, ltb-false, leb-false, eq-eqb, ne-eqb, and-parts}
@@ -24,7 +24,6 @@ use Rattle.rules.specs.declared.tape.Terms.the-variants.{Entry}
 use Rattle.rules.specs.Limits.{lowest-price, highest-price, most-lots, most-orders}
 use Rattle.rules.specs.Sides.{is, other, better-than, as-good-as}
 use Rattle.rules.specs.Orders.{held, priced, limits, ahead, all-of, prices, same, at, In-range, Book}
-use Rattle.rules.specs.Price.{traded}
 use Rattle.rules.specs.Trades.{ranked, lined}
 use Rattle.rules.specs.Session.{Incoming, accepts, reach, enough, met, rests, resting, Matched, matched}
 use Rattle.rules.specs.Laws.{In}
@@ -200,12 +199,16 @@ cond-none : (b : Bool) → _≡_ {A = ℕ} (cond b 0 0) 0
 cond-none true = refl
 cond-none false = refl
 
+-- what is left of the entry, as an open order
+abbrev rest-order : Incoming → ℕ → ℕ → Order
+rest-order e q n = record { number = e .number; id = e .id; side = e .side; kind = Limit q; lots = n; lifetime = e .lifetime }
+
 rest-held : (t : ℕ → Side → Bool) (e : Incoming) (limit : Option ℕ) (n : ℕ) → held (λ o. t (o .number) (o .side)) (resting e limit n) ≡ cond (t (e .number) (e .side)) (cond (rests limit (e .condition)) n 0) 0
 rest-held t e None n = sym (cond-none (t (e .number) (e .side)))
 rest-held t e (Some q) n = go (rests (Some q) (e .condition))
   where
-    go : (r : Bool) → held (λ o. t (o .number) (o .side)) (cond (r && ltb 0 n) (record { number = e .number; id = e .id; side = e .side; kind = Limit q; lots = n; lifetime = e .lifetime } ∷ []) []) ≡ cond (t (e .number) (e .side)) (cond r n 0) 0
-    go true = cond-both (ltb 0 n) (record { number = e .number; id = e .id; side = e .side; kind = Limit q; lots = n; lifetime = e .lifetime } ∷ []) [] (λ (os : List Order). held (λ o. t (o .number) (o .side)) os ≡ cond (t (e .number) (e .side)) n 0)
+    go : (r : Bool) → held (λ o. t (o .number) (o .side)) (cond (r && ltb 0 n) (rest-order e q n ∷ []) []) ≡ cond (t (e .number) (e .side)) (cond r n 0) 0
+    go true = cond-both (ltb 0 n) (rest-order e q n ∷ []) [] (λ (os : List Order). held (λ o. t (o .number) (o .side)) os ≡ cond (t (e .number) (e .side)) n 0)
         (λ _. omega arith)
         (λ none. omega (arith, ltb-false 0 n none, cond-both (t (e .number) (e .side)) n 0 (λ m. m ≤ n) (λ _. omega arith) (λ _. omega arith)))
     go false = sym (cond-none (t (e .number) (e .side)))
@@ -248,21 +251,18 @@ module _ (rule : Rule) (fair : Fairly rule) (e : Incoming) (os : List Order) (b 
   matching-keeps =
       let ok : Bool = enough (e .condition) (e .lots) (reach e os) in
       let n : ℕ = min (e .lots) (reach e os) in
-      let A : Matched = record { orders = met rule e os .orders ++ resting e (e .limit) (e .lots - n); tape = met rule e os .tape; traded = n; withdrawn = cond (rests (e .limit) (e .condition)) 0 (e .lots - n); «open» = cond (rests (e .limit) (e .condition)) (e .lots - n) 0 } in
-      let B : Matched = record { orders = os; tape = []; traded = 0; withdrawn = e .lots; «open» = 0 } in
+      let goes : Matched = record { orders = met rule e os .orders ++ resting e (e .limit) (e .lots - n); tape = met rule e os .tape; traded = n; withdrawn = cond (rests (e .limit) (e .condition)) 0 (e .lots - n); «open» = cond (rests (e .limit) (e .condition)) (e .lots - n) 0 } in
+      let stays : Matched = record { orders = os; tape = []; traded = 0; withdrawn = e .lots; «open» = 0 } in
       record {
-        all-lots = cond-both ok A B (λ d. d .traded + d .withdrawn + d .«open» ≡ e .lots) (λ _. omega (arith, lots-parts (rests (e .limit) (e .condition)) n (e .lots - n))) (λ _. omega arith);
-        conserved = λ t. cond-both ok A B (λ d. held (λ o. t (o .number) (o .side)) os + cond (t (e .number) (e .side)) (e .lots) 0 ≡ held (λ o. t (o .number) (o .side)) (d .orders) + lined t (d .tape) + cond (t (e .number) (e .side)) (d .withdrawn) 0)
+        all-lots = cond-both ok goes stays (λ d. d .traded + d .withdrawn + d .«open» ≡ e .lots) (λ _. omega (arith, lots-parts (rests (e .limit) (e .condition)) n (e .lots - n))) (λ _. omega arith);
+        conserved = λ t. cond-both ok goes stays (λ d. held (λ o. t (o .number) (o .side)) os + cond (t (e .number) (e .side)) (e .lots) 0 ≡ held (λ o. t (o .number) (o .side)) (d .orders) + lined t (d .tape) + cond (t (e .number) (e .side)) (d .withdrawn) 0)
             (λ _. rest-account t) (λ _. omega arith);
-        even = λ s. cond-both ok A B (λ d. lined (λ n side. is s side) (d .tape) ≡ d .traded)
+        even = λ s. cond-both ok goes stays (λ d. lined (λ n side. is s side) (d .tape) ≡ d .traded)
             (λ _. both-sides (λ s. lined (λ n side. is s side) (met rule e os .tape) ≡ n) (e .side) (met-even rule fair e os b .0) (met-even rule fair e os b .1) s) (λ _. refl);
-        accepted-prices = cond-both ok A B (λ d. All (λ l. accepts (e .side) (e .limit) (l .price) ≡ true) (d .tape)) (λ _. met-price rule fair e os b) (λ _. tt);
+        accepted-prices = cond-both ok goes stays (λ d. All (λ l. accepts (e .side) (e .limit) (l .price) ≡ true) (d .tape)) (λ _. met-price rule fair e os b) (λ _. tt);
       }
 
 -- ---- the book that a matched entry leaves
-
-abbrev rest-order : Incoming → ℕ → ℕ → Order
-rest-order e q n = record { number = e .number; id = e .id; side = e .side; kind = Limit q; lots = n; lifetime = e .lifetime }
 
 -- what holds where nothing rests, and where n lots rest at q
 rest-both : (P : List Order → Type 0) (e : Incoming) (limit : Option ℕ) (n : ℕ) → P [] → ((q : ℕ) → limit ≡ Some q → 0 < n → P (rest-order e q n ∷ [])) → P (resting e limit n)
@@ -270,10 +270,6 @@ rest-both P e None n none some = none
 rest-both P e (Some q) n none some = cond-both (rests (Some q) (e .condition) && ltb 0 n) (rest-order e q n ∷ []) [] P
     (λ h. some q refl (ltb-true 0 n (and-parts (rests (Some q) (e .condition)) (ltb 0 n) h .1)))
     (λ _. none)
-
-length-append : (os ps : List Order) → length (os ++ ps) ≡ length os + length ps
-length-append [] ps = omega arith
-length-append (o ∷ os) ps = omega (arith, length-append os ps)
 
 some-range : (limit : Option ℕ) (q : ℕ) → limit ≡ Some q → Limit-in-range limit → (lowest-price ≤ q) × (q ≤ highest-price)
 some-range limit q is-q h = subst Limit-in-range is-q h

@@ -6,7 +6,6 @@ use native.Mathlib.Omega.{arith}
 use lib.Dec.{ltb}
 use Rattle.std.proofs.shelf.Tests.{cond-both, cond-false, ltb-false, le-ltb}
 use Rattle.policy.specs.Fair.{total, Within, Fair, Rule, Fairly}
-use Rattle.rules.specs.Orders.{within}
 use Rattle.rules.specs.Trades.{shares}
 
 within-self : (q : List ℕ) → Within q q

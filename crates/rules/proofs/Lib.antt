@@ -1,0 +1,11 @@
+pub mod Held
+pub mod Volumes
+pub mod Prices
+pub mod Shared
+pub mod Filled
+pub mod Served
+pub mod Crossed
+pub mod Openings
+pub mod Sessions
+pub mod Kept
+pub mod Sampled

@@ -1,0 +1,15 @@
+pub mod Limits
+pub mod Sides
+pub mod Orders
+pub mod Price
+pub mod Trades
+pub mod Opening
+pub mod Session
+pub mod Ladders
+pub mod Lines
+pub mod Refusals
+pub mod Machine
+pub mod Checks
+pub mod Steps
+pub mod Laws
+pub mod Samples

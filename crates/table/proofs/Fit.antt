@@ -4,21 +4,22 @@ use mathlib.Core.Bool.{Bool, true, false, cond, _&&_}
 use mathlib.Core.List.{List, [], _∷_, _++_, map}
 use Prim.Native.Nat.{ℕ, _+_, _-_, _<_, _≤_}
 use native.Mathlib.Omega.{arith}
-use lib.Dec.{leb, eqb}
+use lib.Dec.{leb, ltb, eqb}
 use lib.ListN.{length, getD, take, set}
 use Rattle.std.specs.shelf.Lists.{All, kept-by}
 use Rattle.std.proofs.shelf.Elements.{all-getD, all-append, all-set, all-take, all-map, all-kept-by, all-weaker}
 use Rattle.std.proofs.shelf.Lists.{length-take-le}
-use Rattle.std.proofs.shelf.Tests.{and-parts, and-from, leb-true, le-leb, cond-both}
+use Rattle.std.proofs.shelf.Tests.{and-parts, and-from, leb-true, le-leb, ltb-true, cond-both}
 use Rattle.std.proofs.shelf.Ways.{decides-by-and}
 use Rattle.std.specs.declared.option.Option.the-variants.{Some}
+use Rattle.rules.specs.declared.order.Side.{Side}
 use Rattle.rules.specs.declared.order.Kind.{Kind}
 use Rattle.rules.specs.declared.order.Kind.the-variants.{Limit, OnOpen}
 use Rattle.rules.specs.declared.order.Order.{Order}
 use Rattle.rules.specs.Limits.{lowest-price, highest-price, most-lots}
-use Rattle.rules.specs.Orders.{In-range, Sound, Book}
+use Rattle.rules.specs.Orders.{at, In-range, Sound, Book}
 use Rattle.rules.specs.Checks.{order-of, open-lots}
-use Rattle.rules.specs.Trades.{less}
+use Rattle.rules.specs.Trades.{less, taken, standing}
 use Rattle.rules.specs.Steps.{without, reduced}
 use Rattle.rules.specs.Opening.{limit-at}
 use Rattle.rules.specs.Lines.{drops, passed}
@@ -114,6 +115,29 @@ reduced-each n k (o ∷ os) lt h = reduced-step n k o os (eqb (o .number) n) lt 
 -- A reduction that leaves a lot.
 pub fit-reduced : (n k : ℕ) (os : List Order) → k < open-lots (order-of n os) → all-fit os ≡ true → all-fit (reduced n k os) ≡ true
 fit-reduced n k os lt h = all-fits (reduced n k os) (reduced-each n k os lt (each-fits os h))
+
+-- ---- a trade
+
+-- All that is asked of an order but that it has lots.
+abbrev Loose : Order → Type 0
+Loose o = (o .lots ≤ most-lots) × (kind-fits (o .kind) ≡ true)
+
+taken-loose : (s : Side) (k : Kind) (gs : List ℕ) (os : List Order) → All Loose os → All Loose (taken s k gs os)
+taken-loose s k gs [] h = tt
+taken-loose s k [] (o ∷ os) h = h
+taken-loose s k (g ∷ gs) (o ∷ os) h =
+    cond-both (at s k o) (less o g ∷ taken s k gs os) (o ∷ taken s k (g ∷ gs) os) (All Loose) (λ _. ((omega (arith, h .0 .0), h .0 .1), taken-loose s k gs os (h .1))) (λ _. (h .0, taken-loose s k (g ∷ gs) os (h .1)))
+
+standing-fits : (os : List Order) → All Loose os → All Fits (standing os)
+standing-fits [] h = tt
+standing-fits (o ∷ os) h =
+    cond-both (ltb 0 (o .lots)) (o ∷ standing os) (standing os) (All Fits) (λ e. (fits-from o (omega (arith, ltb-true 0 (o .lots) e)) (h .0 .0) (h .0 .1), standing-fits os (h .1))) (λ _. standing-fits os (h .1))
+
+-- What stands after shares are taken off.
+pub fit-traded : (s : Side) (k : Kind) (gs : List ℕ) (os : List Order) → all-fit os ≡ true → all-fit (standing (taken s k gs os)) ≡ true
+fit-traded s k gs os h =
+    let loose = all-weaker Fits Loose (λ o f. (lots-fit o f .1, kind-of-fit o f)) os (each-fits os h) in
+    all-fits (standing (taken s k gs os)) (standing-fits (taken s k gs os) (taken-loose s k gs os loose))
 
 -- ---- what the rules ask of open orders
 

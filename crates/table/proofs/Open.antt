@@ -7,10 +7,11 @@ use Prim.Native.Nat.{ℕ, zero, suc, _+_, _-_, _<_, _≤_}
 use native.Mathlib.Nat.{add-zero}
 use native.Mathlib.Numerals.{add-one, one-add}
 use native.Mathlib.Omega.{arith}
-use lib.Dec.{eqb}
+use lib.Dec.{eqb, ltb}
 use lib.ListN.{length, getD, take, drop, set}
+use borrow.Rule.Slice.PartMut.{postOf}
 use Rattle.std.specs.shelf.Lists.{removed, between, kept-by}
-use Rattle.std.proofs.shelf.Lists.{length-take-le, length-set, getD-take, getD-drop, drop-drop, take-take, drop-take, take-more-set, append-assoc, append-nil, take-all, drop-all, at-drop-more}
+use Rattle.std.proofs.shelf.Lists.{length-take-le, length-set, getD-take, getD-drop, drop-drop, take-take, drop-take, take-more-set, append-assoc, append-nil, take-all, drop-all, at-drop-more, length-append, length-drop}
 use Rattle.std.proofs.shelf.Edits.{between-more}
 use Rattle.std.proofs.shelf.Elements.{kept-by-more}
 use Rattle.std.proofs.shelf.Filters.{Keeping}
@@ -187,3 +188,13 @@ pub withdrawn-more : (t : Table) (s : Side) (leaving : Leaving) (i : ℕ) → i 
 withdrawn-more t s leaving i lt =
     at-drop-more (held (leaving-of s leaving)) (open-orders t) i no-order (omega (arith, open-length t))
     ∙ ap (λ (o : Order). withdrawn s leaving o + held (leaving-of s leaving) (drop (i + 1) (open-orders t))) (open-read t i no-order lt)
+
+-- ---- a trade
+
+abbrev pub has-lots : Order → Bool
+has-lots o = ltb 0 (o .lots)
+
+-- Places of a table: those of a list, and behind them the others as they were.
+pub put-long : (t : Table) (xs : List Order) → length xs ≡ t .count → length (xs ++ postOf 0 (t .count - 0) (t .orders)) ≡ 256
+put-long t xs e =
+    omega (arith, length-append xs (drop (t .count - 0) (t .orders)), length-drop (t .count - 0) (t .orders), t .long, t .within)

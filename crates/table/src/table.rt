@@ -10,6 +10,7 @@ use rules::order::Order;
 mod choice;
 mod edits;
 mod reads;
+mod trades;
 
 // The most orders that are open at a time.
 pub const PLACES: usize = 256;

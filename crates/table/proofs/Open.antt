@@ -11,7 +11,7 @@ use lib.Dec.{eqb, ltb}
 use lib.ListN.{length, getD, take, drop, set}
 use borrow.Rule.Slice.PartMut.{postOf}
 use Rattle.std.specs.shelf.Lists.{removed, between, kept-by}
-use Rattle.std.proofs.shelf.Lists.{length-take-le, length-set, getD-take, getD-drop, drop-drop, take-take, drop-take, take-more-set, append-assoc, append-nil, take-all, drop-all, at-drop-more, length-append, length-drop}
+use Rattle.std.proofs.shelf.Lists.{length-take-le, length-set, getD-take, getD-drop, drop-drop, take-take, drop-take, take-more-set, append-assoc, append-nil, take-all, drop-all, at-drop-more, take-append-le, length-append, length-drop}
 use Rattle.std.proofs.shelf.Edits.{between-more}
 use Rattle.std.proofs.shelf.Elements.{kept-by-more}
 use Rattle.std.proofs.shelf.Filters.{Keeping}
@@ -20,12 +20,14 @@ use Rattle.std.specs.declared.option.Option.the-variants.{Some, None}
 use Rattle.rules.specs.declared.order.Order.{Order}
 use Rattle.rules.specs.declared.order.Side.{Side}
 use Rattle.rules.specs.declared.order.Side.the-variants.{Bid}
+use Rattle.rules.specs.declared.order.Kind.{Kind}
 use Rattle.rules.specs.declared.order.Kind.the-variants.{Limit}
 use Rattle.rules.specs.declared.order.Lifetime.the-variants.{Plain}
+use Rattle.rules.specs.declared.tape.TapeLine.{TapeLine}
 use Rattle.rules.specs.Checks.{order-of, open-lots}
-use Rattle.rules.specs.Orders.{held}
+use Rattle.rules.specs.Orders.{held, level}
 use Rattle.rules.specs.Sides.{is}
-use Rattle.rules.specs.Trades.{less}
+use Rattle.rules.specs.Trades.{less, taken, standing, lines}
 use Rattle.rules.specs.Steps.{without, reduced}
 use Rattle.table.specs.declared.table.Table.{Table}
 use Rattle.table.specs.declared.tape.Tape.{Tape}
@@ -179,6 +181,10 @@ stays leaving o = not (leaves leaving o)
 pub unread-fits : (t : Table) (leaving : Leaving) (ys : List Order) (k i : ℕ) → Keeping (stays leaving) (t .orders) ys k i → i < t .count → Fits (getD ys i no-order)
 unread-fits t leaving ys k i kept lt = rw (← read-same (t .orders) ys i no-order (kept .rest)) at (open-fits t i lt)
 
+-- At the end the first places hold the orders that stay.
+pub kept-open : (t : Table) (leaving : Leaving) (ys : List Order) (k i : ℕ) → Keeping (stays leaving) (t .orders) ys k i → i ≡ t .count → take k ys ≡ kept-by (stays leaving) (open-orders t)
+kept-open t leaving ys k i kept e = kept .front ∙ ap (λ n. kept-by (stays leaving) (take n (t .orders))) e
+
 -- The orders of a side that leave.
 abbrev pub leaving-of : Side → Leaving → Order → Bool
 leaving-of s leaving o = is s (o .side) && leaves leaving o
@@ -194,7 +200,18 @@ withdrawn-more t s leaving i lt =
 abbrev pub has-lots : Order → Bool
 has-lots o = ltb 0 (o .lots)
 
--- Places of a table: those of a list, and behind them the others as they were.
-pub put-long : (t : Table) (xs : List Order) → length xs ≡ t .count → length (xs ++ postOf 0 (t .count - 0) (t .orders)) ≡ 256
-put-long t xs e =
-    omega (arith, length-append xs (drop (t .count - 0) (t .orders)), length-drop (t .count - 0) (t .orders), t .long, t .within)
+-- A table's places as a trade leaves them: ys in the first places, and behind them the others as they were. `t .count - 0`
+-- is how many the code's part `0..count` has.
+pub put-long : (t : Table) (ys : List Order) → length ys ≡ t .count → length (ys ++ postOf 0 (t .count - 0) (t .orders)) ≡ 256
+put-long t ys e =
+    omega (arith, length-append ys (drop (t .count - 0) (t .orders)), length-drop (t .count - 0) (t .orders), t .long, t .within)
+
+pub part-all : (t : Table) → take (t .count - 0) (t .orders) ≡ open-orders t
+part-all t = let e : t .count - 0 ≡ t .count = omega arith in ap (λ n. take n (t .orders)) e
+
+pub put-traded : (t : Table) (s : Side) (k : Kind) (gs : List ℕ) (xs ys : List Order) (r : ℕ) → xs ≡ taken s k gs (take (t .count - 0) (t .orders)) → take r ys ≡ standing xs → r ≤ length ys → take r (ys ++ postOf 0 (t .count - 0) (t .orders)) ≡ standing (taken s k gs (open-orders t))
+put-traded t s k gs xs ys r e front le =
+    take-append-le r ys (postOf 0 (t .count - 0) (t .orders)) le ∙ front ∙ ap standing e ∙ ap (λ os. standing (taken s k gs os)) (part-all t)
+
+pub put-written : (t : Table) (s : Side) (k : Kind) (gs : List ℕ) (p : ℕ) (before now : List TapeLine) → now ≡ before ++ lines p (level s k (take (t .count - 0) (t .orders))) gs → now ≡ before ++ lines p (level s k (open-orders t)) gs
+put-written t s k gs p before now e = e ∙ ap (λ os. before ++ lines p (level s k os) gs) (part-all t)

@@ -1,6 +1,6 @@
 -- The loop that takes the shares off a level, one order at a time.
 use mathlib.Core.Path.{_≡_, refl, sym, ap, _∙_}
-use mathlib.Core.Bool.{Bool, true, false, cond}
+use mathlib.Core.Bool.{Bool, true, false}
 use mathlib.Core.List.{List, _∷_, [], _++_, map}
 use Prim.Native.Nat.{ℕ, _+_, _<_, _≤_}
 use native.Mathlib.Omega.{arith}
@@ -47,6 +47,13 @@ taken-yes s k g gs o os on = cond-true (at s k o) _ _ on
 
 pub short-line : (number : ℕ) (s : Side) (p lots : ℕ) → length (line number s p lots) ≤ 1
 short-line number s p lots = cond-both (ltb 0 lots) _ _ (λ (l : List TapeLine). length l ≤ 1) (λ e. omega arith) (λ e. omega arith)
+
+-- A line at most for each share.
+pub lines-few : (p : ℕ) (os : List Order) (gs : List ℕ) → length (lines p os gs) ≤ length gs
+lines-few p [] gs = omega arith
+lines-few p (o ∷ os) [] = omega arith
+lines-few p (o ∷ os) (g ∷ gs) =
+    omega (arith, length-append (line (o .number) (o .side) p g) (lines p os gs), short-line (o .number) (o .side) p g, lines-few p os gs)
 
 module _ (s : Side) (k : Kind) (os : List Order) (i : ℕ) (d : Order) (in′ : i < length os) where
   level-yes : at s k (getD os i d) ≡ true → level s k (drop i os) ≡ getD os i d ∷ level s k (drop (i + 1) os)

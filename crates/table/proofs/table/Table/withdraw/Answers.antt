@@ -12,9 +12,9 @@ use Rattle.table.specs.Fits.{all-fit}
 use Rattle.table.specs.Tables.{open-orders}
 use Rattle.table.specs.Choices.{leaves, withdrawn}
 use Rattle.table.proofs.Fit.{lots-fit, fit-kept}
-use Rattle.table.proofs.Open.{no-order, open-length, read-same, set-long, set-fits, stays, leaving-of, unread-fits, withdrawn-more}
+use Rattle.table.proofs.Open.{no-order, open-length, read-same, set-long, set-fits, stays, leaving-of, unread-fits, kept-open, withdrawn-more}
 use Rattle.table.proofs.table.Table.withdraw.Needs as need
-use Rattle.table.proofs.table.Table.withdraw.Needs.{then-not-takes, else-not-takes}
+use Rattle.table.proofs.table.Table.withdraw.Needs.{then-not-takes, else-not-takes, After-loop-i}
 
 pub add-bids : need.add-bids
 add-bids c =
@@ -62,11 +62,8 @@ ghost-self c =
     let fit = unread-fits (c .args .self .now) (c .args .leaving) (t .orders) (c .loop-i .free) (c .loop-i .i) (c .loop-i .inv .0) (c .loop-i-test .taken) in
     (set-long t (c .loop-i .free) o, (t .within, (set-fits t (c .loop-i .free) o fit, tt)))
 
--- At the end the first places are those that stay, of all.
 front : (c : need.After-loop-i) → take (c .loop-i .free) (c .loop-i .self .orders) ≡ kept-by (stays (c .args .leaving)) (open-orders (c .args .self .now))
-front c =
-    let end : c .loop-i .i ≡ c .args .self .now .count = omega (arith, c .loop-i-test .left, c .loop-i .kept .i-end) in
-    rw end at (c .loop-i .inv .0 .front)
+front c = kept-open (c .args .self .now) (c .args .leaving) (c .loop-i .self .orders) (c .loop-i .free) (c .loop-i .i) (c .loop-i .inv .0) (omega (arith, c .loop-i-test .left, c .loop-i .kept .i-end))
 
 pub ghost-self-2 : need.ghost-self-2
 ghost-self-2 c =
@@ -82,10 +79,9 @@ returns c =
     let t0 = c .args .self .now in
     let leaving = c .args .leaving in
     let past : length (open-orders t0) ≤ c .loop-i .i = omega (arith, open-length t0, c .loop-i-test .left) in
-    let end : c .loop-i .i ≡ t0 .count = omega (arith, c .loop-i-test .left, c .loop-i .kept .i-end) in
     let b = at-drop-all (held (leaving-of Bid leaving)) (open-orders t0) (c .loop-i .i) past in
     let f = at-drop-all (held (leaving-of Offer leaving)) (open-orders t0) (c .loop-i .i) past in
     record {
-      orders = rw end at (c .loop-i .inv .0 .front);
+      orders = front (need.at·returns c .After-loop-i);
       lots = same-pair (c .loop-i .bids) (held (leaving-of Bid leaving) (open-orders t0)) (c .loop-i .offers) (held (leaving-of Offer leaving) (open-orders t0)) (omega (arith, b, c .loop-i .inv .1)) (omega (arith, f, c .loop-i .inv .2));
     }

@@ -5,6 +5,8 @@ use Prim.Native.Nat.{ℕ, _+_, _≤_}
 use lib.Dec.{eqb}
 use lib.ListN.{length}
 use Rattle.std.specs.shelf.Lists.{kept-by, All}
+use Rattle.std.specs.declared.option.Option.{Option}
+use Rattle.std.specs.declared.option.Option.the-variants.{Some, None}
 use Rattle.rules.specs.declared.order.Side.{Side}
 use Rattle.rules.specs.declared.order.Side.the-variants.{Bid, Offer}
 use Rattle.rules.specs.declared.order.Kind.{Kind}
@@ -74,6 +76,10 @@ level s k os = kept-by (at s k) os
 
 abbrev pub queue : Side → Kind → List Order → List ℕ
 queue s k os = map (λ o. o .lots) (level s k os)
+
+-- The price of a limit order of the side.
+abbrev pub limit-of : Side → Order → Option ℕ
+limit-of s o = cond (is s (o .side)) (elim (o .kind) [ Limit x ↦ Some x | OnOpen ↦ None ]) None
 
 -- ---- what open orders always are
 

@@ -32,6 +32,7 @@ use Rattle.rules.specs.declared.refusal.Refusal.{Refusal}
 use Rattle.rules.specs.Sides.{is}
 use Rattle.rules.specs.Orders.{held}
 use Rattle.rules.specs.Price.{volume, price}
+use Rattle.rules.specs.Trades.{less}
 use Rattle.rules.specs.Opening.{opened}
 use Rattle.rules.specs.Session.{Incoming, Matched, matched}
 use Rattle.rules.specs.Lines.{moved, heir, drops, passed}
@@ -99,18 +100,21 @@ enter-market R m e = checked (market-checks m e) m (meet R m (market-incoming m 
 
 -- ---- cancellation and reduction
 
+-- The open orders without the order of a number. No number is given twice, so there is no second one.
 abbrev pub without : ℕ → List Order → List Order
-without n os = kept-by (λ o. not (eqb (o .number) n)) os
+without n [] = []
+without n (o ∷ os) = cond (eqb (o .number) n) os (o ∷ without n os)
 
 abbrev pub cancel : Machine → ℕ → ℕ → Outcome
 cancel m id number = checked (cancel-checks m id number) m (outcome (Cancelled (open-lots (order-of number (m .orders)))) (with-orders m (without number (m .orders))))
 
--- The order of the number with that many lots less; the others as they are.
-abbrev pub lessened : ℕ → ℕ → Order → Order
-lessened n lots o = record { number = o .number; id = o .id; side = o .side; kind = o .kind; lots = cond (eqb (o .number) n) (o .lots - lots) (o .lots); lifetime = o .lifetime }
+-- The same with that many lots less of it.
+abbrev pub reduced : ℕ → ℕ → List Order → List Order
+reduced n lots [] = []
+reduced n lots (o ∷ os) = cond (eqb (o .number) n) (less o lots ∷ os) (o ∷ reduced n lots os)
 
 abbrev pub reduce : Machine → ℕ → ℕ → ℕ → Outcome
-reduce m id number lots = checked (reduce-checks m id number lots) m (outcome (Reduced (open-lots (order-of number (m .orders)) - lots)) (with-orders m (map (lessened number lots) (m .orders))))
+reduce m id number lots = checked (reduce-checks m id number lots) m (outcome (Reduced (open-lots (order-of number (m .orders)) - lots)) (with-orders m (reduced number lots (m .orders))))
 
 -- ---- lines
 

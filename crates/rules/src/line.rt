@@ -1,4 +1,5 @@
 // The line of a Trading ID.
+mod methods;
 
 // Up or down, with its successor if one is named.
 #[derive(Clone, Copy)]

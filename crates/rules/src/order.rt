@@ -1,4 +1,6 @@
 // An open order, and what it is made of.
+mod methods;
+
 #[derive(Clone, Copy)]
 pub enum Side {
     Bid,

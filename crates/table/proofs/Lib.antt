@@ -1,0 +1,4 @@
+pub mod Fit
+pub mod Open
+pub mod Taking
+pub mod Queues

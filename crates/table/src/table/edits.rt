@@ -4,7 +4,7 @@ ghost use mathlib.Core.Bool.{true, not};
 ghost use mathlib.Core.List.{[], _∷_, _++_, map};
 ghost use Prim.Native.Nat.{_<_};
 ghost use lib.ListN.{length, take};
-ghost use Rattle.std.specs.shelf.Lists.{kept-by};
+ghost use Rattle.std.specs.shelf.Lists.{kept-by, removed};
 ghost use Rattle.rules.specs.Checks.{order-of, open-lots};
 ghost use Rattle.rules.specs.Steps.{without, reduced, pair-of};
 ghost use Rattle.table.specs.Fits.{fits};
@@ -56,14 +56,16 @@ impl Table {
         }
     }
 
-    // Where the open order of a number stands; past the open orders where there is none.
-    fn place(&self, number: u32) -> usize {
-        for i in 0..self.count {
-            if self.orders[i].number == number {
-                return i;
-            }
+    // Takes out the order at a place; those behind it move down.
+    fn close_up(&mut self, at: usize)
+        requires { ⌜ at < now self .count ⌝ }
+        ensures { λ _. ⌜ open-orders (now (self .exit)) ≡ removed (open-orders (now (self .entry))) at ⌝ }
+    {
+        let last = self.count - 1;
+        for k in at..last {
+            self.orders[k] = self.orders[k + 1];
         }
-        self.count
+        self.count = last;
     }
 
     // Takes out the order of a number.
@@ -72,10 +74,7 @@ impl Table {
     {
         let at = self.place(number);
         if at < self.count {
-            for k in at..self.count - 1 {
-                self.orders[k] = self.orders[k + 1];
-            }
-            self.count -= 1;
+            self.close_up(at);
         }
     }
 

@@ -4,7 +4,7 @@ ghost use Prim.Native.Nat.{_≤_};
 ghost use lib.ListN.{length};
 ghost use Rattle.rules.specs.Orders.{limits};
 ghost use Rattle.rules.specs.Checks.{order-of};
-ghost use Rattle.table.specs.Tables.{open-orders};
+ghost use Rattle.table.specs.Tables.{open-orders, place-of};
 ghost use Rattle.table.specs.Choices.{among};
 use super::Prices;
 use super::Table;
@@ -25,17 +25,28 @@ impl Table {
         &self.orders[0..self.count]
     }
 
+    // Where the open order of a number stands; behind the open orders where there is none.
+    pub(super) fn place(&self, number: u32) -> usize
+        ensures { λ r. ⌜ r ≡ place-of number (open-orders (now (self .entry))) ⌝ }
+    {
+        for i in 0..self.count {
+            if self.orders[i].number == number {
+                return i;
+            }
+        }
+        self.count
+    }
+
     // The open order of a number.
     pub fn find(&self, number: u32) -> Option<Order>
         ensures { λ r. ⌜ r ≡ order-of number (open-orders (now (self .entry))) ⌝ }
     {
-        for i in 0..self.count {
-            let o = self.orders[i];
-            if o.number == number {
-                return Some(o);
-            }
+        let at = self.place(number);
+        if at < self.count {
+            Some(self.orders[at])
+        } else {
+            None
         }
-        None
     }
 
     // The lots of the side's limit orders at some prices.

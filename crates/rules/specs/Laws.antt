@@ -1,6 +1,7 @@
 -- Laws above the definitions that walk, in the words of the market.
 use mathlib.Core.Path.{_≡_}
-use lib.Dec.{eqb}
+use mathlib.Core.Bool.{cond}
+use lib.Dec.{leb, ltb, eqb}
 use mathlib.Core.Logic.{_⊎_}
 use mathlib.Core.List.{List, [], _∷_}
 use Prim.Native.Nat.{ℕ, _+_, _-_, _≤_, min}
@@ -11,6 +12,7 @@ use Rattle.rules.specs.declared.order.Side.the-variants.{Bid, Offer}
 use Rattle.rules.specs.declared.order.Kind.{Kind}
 use Rattle.rules.specs.declared.order.Kind.the-variants.{Limit}
 use Rattle.rules.specs.declared.order.Order.{Order}
+use Rattle.rules.specs.declared.ladder.Ladder.the-variants.{Securities, Index, Bond}
 use Rattle.rules.specs.declared.tape.Terms.{Terms}
 use Rattle.rules.specs.declared.tape.Terms.the-variants.{Opening}
 use Rattle.rules.specs.Limits.{lowest-price, highest-price}
@@ -19,6 +21,7 @@ use Rattle.rules.specs.Orders.{held, at, ahead, prices, Book}
 use Rattle.rules.specs.Price.{tradable, volume, price}
 use Rattle.rules.specs.Trades.{Step, fill, serve, levels, lined}
 use Rattle.rules.specs.Opening.{stage-one}
+use Rattle.rules.specs.Ladders.{step-at}
 
 -- x is one of them.
 abbrev pub In : ℕ → List ℕ → Type 0
@@ -56,3 +59,9 @@ pub record Between-left-overs (rule : Rule) (os : List Order) (p : ℕ) : Type 0
 
 abbrev pub Price-lies-between : Type 0
 Price-lies-between = (rule : Rule) → Fairly rule → (os : List Order) → Book os → (p : ℕ) → price os ≡ Some p → Between-left-overs rule os p
+
+-- The step at each price: in full for securities; 1 up to 200 and 5 above for an index; 1 for a bond.
+pub record Steps-as-listed : Type 0 where
+  pub securities : (x : ℕ) → step-at Securities x ≡ cond (ltb x 2_000) 1 (cond (ltb x 6_000) 2 (cond (ltb x 60_000) 10 (cond (ltb x 100_000) 50 (cond (ltb x 200_000) 100 (cond (ltb x 2_000_000) 1_000 10_000)))))
+  pub index : (x : ℕ) → step-at Index x ≡ cond (leb x 200) 1 5
+  pub bond : (x : ℕ) → step-at Bond x ≡ 1

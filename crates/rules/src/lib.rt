@@ -1,6 +1,7 @@
 // The vocabulary of one option series, and the rules that contracts cite (specs/).
 pub mod calls;
 pub mod ladder;
+pub mod laws;
 pub mod line;
 pub mod order;
 pub mod refusal;

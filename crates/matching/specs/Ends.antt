@@ -8,10 +8,10 @@ use Rattle.rules.specs.declared.order.Order.{Order}
 use Rattle.rules.specs.Limits.{lowest-price, highest-price}
 use Rattle.rules.specs.Orders.{ahead, within}
 use Rattle.rules.specs.Price.{highest, lowest}
-use Rattle.matching.specs.declared.price.Among.{Among}
-use Rattle.matching.specs.declared.price.Among.the-variants.{All, Traded, Untraded}
-use Rattle.matching.specs.declared.price.End.{End}
-use Rattle.matching.specs.declared.price.End.the-variants.{Highest, Lowest}
+use Rattle.matching.specs.declared.pricing.Among.{Among}
+use Rattle.matching.specs.declared.pricing.Among.the-variants.{All, Traded, Untraded}
+use Rattle.matching.specs.declared.pricing.End.{End}
+use Rattle.matching.specs.declared.pricing.End.the-variants.{Highest, Lowest}
 
 abbrev pub looked-at : Among → Side → List Order → ℕ → Bool
 looked-at All s os x = true
@@ -34,8 +34,3 @@ furthest-from end found (x ∷ xs) = furthest-from end (further end found x) xs
 abbrev pub furthest : End → List ℕ → ℕ
 furthest Highest xs = highest xs
 furthest Lowest xs = lowest xs
-
--- The largest of a function over some prices.
-abbrev pub most-of : (ℕ → ℕ) → List ℕ → ℕ
-most-of f [] = 0
-most-of f (x ∷ xs) = max (f x) (most-of f xs)

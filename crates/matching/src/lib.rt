@@ -1,5 +1,5 @@
 // How a book trades: the volume and the price of its opening.
-mod price;
+mod pricing;
 
-pub use price::price;
-pub use price::volume;
+pub use pricing::price;
+pub use pricing::volume;

@@ -1,14 +1,17 @@
 // The volume and the price at which a book would open.
 ghost use mathlib.Core.Path.{_≡_};
+ghost use mathlib.Core.Bool.{cond, _&&_};
 ghost use mathlib.Core.List.{[], _∷_};
 ghost use Prim.Native.Nat.{min, max};
+ghost use lib.Dec.{ltb};
 ghost use Rattle.std.specs.shelf.Lists.{kept-by};
+ghost use Rattle.std.specs.declared.option.Option.the-variants.{Some, None};
 ghost use Rattle.rules.specs.Sides.{midpoint};
 ghost use Rattle.rules.specs.Orders.{prices};
-ghost use Rattle.rules.specs.Price.{tradable, volume as volume-of, price-at, untraded, highest, lowest};
+ghost use Rattle.rules.specs.Price.{most-of, tradable, volume as volume-of, price-at, untraded, highest, lowest};
 ghost use Rattle.rules.specs.declared.order.Side.the-variants.{Bid, Offer};
 ghost use Rattle.table.specs.Tables.{open-orders};
-ghost use Rattle.matching.specs.Ends.{most-of, looked-at, start-of, further, furthest-from, furthest};
+ghost use Rattle.matching.specs.Ends.{looked-at, start-of, further, furthest-from, furthest};
 use rules::order::Order;
 use rules::order::Side;
 use table::table::Prices;
@@ -106,7 +109,7 @@ fn tradable_at(table: &Table, o: Order) -> u32
 pub fn volume(table: &Table) -> u32
     ensures { λ r. ⌜ r ≡ volume-of (open-orders (now (table .entry))) ⌝ }
 {
-    let mut most = 0;
+    let mut most: u32 = 0;
     for o in table.orders() {
         most = most.max(tradable_at(table, *o));
     }
@@ -122,6 +125,17 @@ fn price_between(table: &Table, v: u32, last_bid: u32, last_offer: u32) -> u32
     middle(x, y)
 }
 
+// The price where no lot trades: the middle between the best bid and the best offer, if both sides have lots.
+fn price_untraded(table: &Table, bids: u32, offers: u32) -> Option<u32>
+    ensures { λ r. ⌜ r ≡ cond (ltb 0 bids && ltb 0 offers) (Some (midpoint (highest (prices Bid (open-orders (now (table .entry))))) (lowest (prices Offer (open-orders (now (table .entry))))))) None ⌝ }
+{
+    if bids == 0 || offers == 0 {
+        return None;
+    }
+    let bid = extreme(table, Side::Bid, Among::All, End::Highest);
+    Some(middle(bid, extreme(table, Side::Offer, Among::All, End::Lowest)))
+}
+
 // The opening price, if there is one, where v lots of limit orders trade.
 pub fn price(table: &Table, v: u32) -> Option<u32>
     ensures { λ r. ⌜ r ≡ price-at v (open-orders (now (table .entry))) ⌝ }
@@ -129,11 +143,7 @@ pub fn price(table: &Table, v: u32) -> Option<u32>
     let bids = table.lots(Side::Bid, Prices::Any);
     let offers = table.lots(Side::Offer, Prices::Any);
     if v == 0 {
-        if bids == 0 || offers == 0 {
-            return None;
-        }
-        let bid = extreme(table, Side::Bid, Among::All, End::Highest);
-        return Some(middle(bid, extreme(table, Side::Offer, Among::All, End::Lowest)));
+        return price_untraded(table, bids, offers);
     }
     let last_bid = extreme(table, Side::Bid, Among::Traded(v), End::Lowest);
     let last_offer = extreme(table, Side::Offer, Among::Traded(v), End::Highest);

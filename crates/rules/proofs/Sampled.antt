@@ -14,12 +14,12 @@ use Rattle.rules.specs.declared.calls.Phase.the-variants.{PreOpen}
 use Rattle.rules.specs.declared.calls.Call.{Call}
 use Rattle.rules.specs.declared.calls.Answer.the-variants.{Opened}
 use Rattle.rules.specs.Orders.{prices, Sound}
-use Rattle.rules.specs.Price.{tradable, price-at}
+use Rattle.rules.specs.Price.{most-of, tradable, price-at}
 use Rattle.rules.specs.Opening as opening
 use Rattle.rules.specs.Machine.{Machine, made}
 use Rattle.rules.specs.Steps.{open-book, only-in}
 use Rattle.rules.specs.Samples.{rules, after-calls, bid, offer, on-open, Opens, Sample-openings, Twelve-samples}
-use Rattle.rules.proofs.Volumes.{most-of, volume-among-bids}
+use Rattle.rules.proofs.Volumes.{volume-among-bids}
 
 -- an opening where v lots of limit orders trade
 abbrev at-volume : List Order → ℕ → opening.Opened

@@ -9,7 +9,7 @@ use Rattle.rules.specs.declared.order.Side.the-variants.{Bid}
 use Rattle.rules.specs.declared.order.Order.{Order}
 use Rattle.rules.specs.Limits.{lowest-price, highest-price}
 use Rattle.rules.specs.Orders.{demand, prices, Sound}
-use Rattle.rules.specs.Price.{most, tradable, volume}
+use Rattle.rules.specs.Price.{most-of, most, tradable, volume}
 use Rattle.rules.specs.Laws.{In}
 use Rattle.rules.proofs.Held.{lots-at, within-ahead, supply-le, ahead-bid, level-in, prices-range, demand-end}
 
@@ -39,11 +39,6 @@ never-more os q l h = most-over (tradable os) highest-price q l h
 pub attained : (os : List Order) → (q : ℕ) × (lowest-price ≤ q) × (q ≤ highest-price) × (tradable os q ≡ volume os)
 unfolding volume
 attained os = most-hit (tradable os) highest-price (omega arith)
-
--- The largest over some prices only.
-abbrev pub most-of : (ℕ → ℕ) → List ℕ → ℕ
-most-of f [] = 0
-most-of f (x ∷ xs) = max (f x) (most-of f xs)
 
 most-of-over : (f : ℕ → ℕ) (xs : List ℕ) (x : ℕ) → In x xs → f x ≤ most-of f xs
 most-of-over f [] x h = absurd h

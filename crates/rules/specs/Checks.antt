@@ -103,50 +103,60 @@ open-lots (Some o) = o .lots
 abbrev pub id-checks : Machine → ℕ → List Check → List Check
 id-checks m id more = (outside 1 most-ids id, NoSuchId) ∷ (line-down m id, LineIsDown) ∷ more
 
-abbrev pub limit-checks : Machine → LimitEntry → List Check
-limit-checks m e = id-checks m (e .id) (
+-- That there is room for one order more, and a number for it.
+abbrev pub room-checks : Machine → List Check
+room-checks m = (full m, BookFull) ∷ (used-up m, NumbersUsedUp) ∷ []
+
+abbrev pub limit-terms : Machine → LimitEntry → List Check
+limit-terms m e =
     (not (takes (m .ladder) (e .price)), PriceNotTaken) ∷
     (outside 1 most-lots (e .lots), VolumeOutOfRange) ∷
     (minimum-outside (e .condition) (e .lots), MinimumOutOfRange) ∷
     (not (limit-allowed (m .phase) (e .lifetime) (e .condition)), ModifierNotAllowed) ∷
     (day-outside m (e .lifetime), DayOutOfRange) ∷
-    (full m, BookFull) ∷
-    (used-up m, NumbersUsedUp) ∷
-    [])
+    room-checks m
 
-abbrev pub on-open-checks : Machine → OnOpenEntry → List Check
-on-open-checks m e = id-checks m (e .id) (
+abbrev pub limit-checks : Machine → LimitEntry → List Check
+limit-checks m e = id-checks m (e .id) (limit-terms m e)
+
+abbrev pub on-open-terms : Machine → OnOpenEntry → List Check
+on-open-terms m e =
     (outside 1 most-lots (e .lots), VolumeOutOfRange) ∷
     (not (on-open-allowed (e .lifetime)), ModifierNotAllowed) ∷
     (day-outside m (e .lifetime), DayOutOfRange) ∷
-    (full m, BookFull) ∷
-    (used-up m, NumbersUsedUp) ∷
-    [])
+    room-checks m
+
+abbrev pub on-open-checks : Machine → OnOpenEntry → List Check
+on-open-checks m e = id-checks m (e .id) (on-open-terms m e)
 
 -- A market order never rests, so a full book takes it.
-abbrev pub market-checks : Machine → MarketEntry → List Check
-market-checks m e = id-checks m (e .id) (
+abbrev pub market-terms : Machine → MarketEntry → List Check
+market-terms m e =
     (outside 1 most-lots (e .lots), VolumeOutOfRange) ∷
     (minimum-outside (e .condition) (e .lots), MinimumOutOfRange) ∷
     (not (market-allowed (e .lifetime) (e .condition)), ModifierNotAllowed) ∷
     (used-up m, NumbersUsedUp) ∷
-    [])
+    []
 
--- That the ID holds an open order of the number.
-abbrev pub order-checks : Machine → ℕ → ℕ → List Check → List Check
-order-checks m id number more = id-checks m id (
-    (missing (order-of number (m .orders)), NoSuchOrder) ∷
-    (another-holds id (order-of number (m .orders)), HeldByAnother) ∷
-    more)
+abbrev pub market-checks : Machine → MarketEntry → List Check
+market-checks m e = id-checks m (e .id) (market-terms m e)
+
+-- That there is an open order of the number, and the ID holds it.
+abbrev pub order-terms : ℕ → Option Order → List Check → List Check
+order-terms id order more =
+    (missing order, NoSuchOrder) ∷
+    (another-holds id order, HeldByAnother) ∷
+    more
 
 abbrev pub cancel-checks : Machine → ℕ → ℕ → List Check
-cancel-checks m id number = order-checks m id number []
+cancel-checks m id number = id-checks m id (order-terms id (order-of number (m .orders)) [])
 
 -- A reduction leaves at least one lot open.
+abbrev pub reduction-terms : ℕ → Option Order → ℕ → List Check
+reduction-terms id order lots = order-terms id order ((outside 1 (open-lots order - 1) lots, ReductionOutOfRange) ∷ [])
+
 abbrev pub reduce-checks : Machine → ℕ → ℕ → ℕ → List Check
-reduce-checks m id number lots = order-checks m id number (
-    (outside 1 (open-lots (order-of number (m .orders)) - 1) lots, ReductionOutOfRange) ∷
-    [])
+reduce-checks m id number lots = id-checks m id (reduction-terms id (order-of number (m .orders)) lots)
 
 abbrev pub line-down-checks : Machine → ℕ → List Check
 line-down-checks m id = id-checks m id []

@@ -26,6 +26,11 @@ tradable os q = min (demand os q) (supply os q)
 unfoldable pub volume : List Order → ℕ
 volume os = most (tradable os) highest-price
 
+-- The largest of a function over some prices only.
+abbrev pub most-of : (ℕ → ℕ) → List ℕ → ℕ
+most-of f [] = 0
+most-of f (x ∷ xs) = max (f x) (most-of f xs)
+
 -- Of a side the first v lots trade, the better price first: a price trades where fewer than v lots are ahead of it,
 -- and is left, in whole or in part, where more than v lots are at it or ahead.
 abbrev pub traded : Side → ℕ → List Order → List ℕ

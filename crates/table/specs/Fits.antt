@@ -15,8 +15,11 @@ abbrev pub kind-fits : Kind → Bool
 kind-fits (Limit x) = price-fits x
 kind-fits OnOpen = true
 
+abbrev pub entry-fits : Kind → ℕ → Bool
+entry-fits kind lots = leb 1 lots && (leb lots most-lots && kind-fits kind)
+
 abbrev pub fits : Order → Bool
-fits o = leb 1 (o .lots) && (leb (o .lots) most-lots && kind-fits (o .kind))
+fits o = entry-fits (o .kind) (o .lots)
 
 abbrev pub all-fit : List Order → Bool
 all-fit [] = true

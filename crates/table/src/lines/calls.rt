@@ -3,7 +3,7 @@ ghost use Prim.Native.Nat.{_≤_};
 ghost use lib.ListN.{replicate};
 ghost use Rattle.std.specs.declared.option.Option.the-variants.{None};
 ghost use Rattle.rules.specs.declared.line.Line.the-variants.{Up};
-ghost use Rattle.rules.specs.Lines.{line-of, moved, heir, if-up};
+ghost use Rattle.rules.specs.Lines.{line-of, moved, heir};
 ghost use Rattle.table.specs.Tables.{line-list};
 use super::Lines;
 use rules::line::Line;
@@ -18,12 +18,26 @@ impl Lines {
         }
     }
 
-    // The line of an ID.
+    // The line of an ID; that of an ID that the book has not counts as up.
     pub fn of(&self, id: u8) -> Line
-        requires { ⌜ 1 ≤ id ⌝ ∗ ⌜ id ≤ 64 ⌝ }
         ensures { λ r. ⌜ r ≡ line-of id (line-list (now (self .entry))) ⌝ }
     {
-        self.lines[id as usize - 1]
+        let i = id.saturating_sub(1) as usize;
+        if i < 64 {
+            self.lines[i]
+        } else {
+            Line::Up(None)
+        }
+    }
+
+    // Who takes over the orders of a line that goes down: its successor, if one is named and up.
+    pub fn heir(&self, id: u8) -> Option<u8>
+        ensures { λ r. ⌜ r ≡ heir id (line-list (now (self .entry))) ⌝ }
+    {
+        match self.of(id).successor() {
+            Some(successor) if !self.of(successor).is_down() => Some(successor),
+            _ => None,
+        }
     }
 
     // What a line call makes of the line of an ID: it keeps its successor until another is named.

@@ -1,5 +1,8 @@
 -- How the lines of a script are counted. Assumes nothing.
+use mathlib.Core.List.{List, _++_}
 use Prim.Native.Nat.{ℕ, _+_, _<_}
+use lib.Chars.{codes}
+use Rattle.std.specs.Written.{decimal}
 use Rattle.optbook.specs.declared.tally.Outcome.{Outcome}
 use Rattle.optbook.specs.declared.tally.Outcome.the-variants.{Passed, Taken, Refused, NotUnderstood}
 use Rattle.optbook.specs.declared.tally.Tally.{Tally}
@@ -23,3 +26,8 @@ pub record Few (t : Tally) (n : ℕ) : Type 0 where
   pub taken : t .taken < n
   pub refused : t .refused < n
   pub unread : t .«not_understood» < n
+
+-- The last line of a run.
+abbrev pub summary : Tally → List ℕ
+summary t =
+    codes "summary calls " ++ (decimal (t .calls) ++ (codes " taken " ++ (decimal (t .taken) ++ (codes " refused " ++ (decimal (t .refused) ++ (codes " not-understood " ++ decimal (t .«not_understood»)))))))

@@ -1,7 +1,7 @@
 // From a line of a script to the call that it makes.
 ghost use mathlib.Core.Path.{_≡_};
 ghost use Rattle.std.specs.Options.{Cases};
-ghost use Rattle.optbook.specs.Policies.{favour-word};
+ghost use Rattle.optbook.specs.Policies.{favour-word, Named};
 use crate::command::Command;
 use crate::fault::Fault;
 use crate::fault::FaultFromAlloc;
@@ -86,7 +86,9 @@ fn favour(word: &str) -> Option<(&str, &str, &str)>
     Some((cap, minimum, below))
 }
 
-fn base(word: &str) -> Option<Base> {
+fn base(word: &str) -> Option<Base>
+    ensures { λ r. ⌜ Named (now (word .entry)) r ⌝ }
+{
     match word {
         "price-time" => Some(Base::PriceTime),
         "pro-rata" => Some(Base::ProRata),

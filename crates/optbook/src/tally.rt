@@ -1,7 +1,8 @@
 // What became of the lines of a script, counted for the summary.
 ghost use mathlib.Core.Path.{_≡_};
 ghost use Prim.Native.Nat.{_+_, _-_, _^_, _<_, _≤_};
-ghost use Rattle.optbook.specs.Tallies.{counted, Few, none};
+ghost use Rattle.std.specs.declared.option.Option.the-variants.{Some};
+ghost use Rattle.optbook.specs.Tallies.{counted, Few, none, summary};
 use std::fmt;
 
 #[derive(Clone, Copy)]
@@ -53,6 +54,8 @@ impl Tally {
 }
 
 pub impl fmt::Display for Tally as TallyDisplay {
+    ghost shown = { λ t. Some (summary t) };
+
     fn fmt<W: fmt::Write>(&self, f: &mut fmt::Formatter<W>) -> fmt::Result {
         let Tally {
             calls,

@@ -1,9 +1,12 @@
 -- What a call answers. Assumes nothing.
 use mathlib.Core.Path.{_≡_}
 use mathlib.Core.Bool.{true, false}
-use mathlib.Core.List.{List}
+use mathlib.Core.List.{List, [], _∷_, _++_}
 use Prim.Native.Nat.{ℕ}
+use lib.Chars.{codes}
 use Rattle.std.specs.Of.Vec.{vec-items}
+use Rattle.std.specs.Written.{decimal}
+use Rattle.policy.specs.Asked.{number-of}
 use Rattle.policy.specs.Chosen.{Chosen, chosen-rule}
 use Rattle.policy.specs.Queue.{is-queue}
 use Rattle.policy.specs.declared.Refusal.the-variants.{NotAQueue}
@@ -25,3 +28,13 @@ Shared policy queue lots (Refused refusal) = (is-queue queue ≡ false) × (refu
 
 abbrev pub Answers-to : Command → Answer → Type 0
 Answers-to (Share policy lots queue) answer = Shared policy (vec-items queue) lots answer
+
+-- A blank before each number.
+abbrev pub spaced-text : List ℕ → List ℕ
+spaced-text [] = []
+spaced-text (n ∷ ns) = 32 ∷ (decimal n ++ spaced-text ns)
+
+-- The line that is printed.
+abbrev pub answer-text : Answer → List ℕ
+answer-text (Shares shares) = codes "shares" ++ spaced-text (vec-items shares)
+answer-text (Refused refusal) = codes "refused " ++ decimal (number-of refusal)

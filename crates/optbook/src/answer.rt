@@ -1,7 +1,9 @@
 // What a call answers.
 ghost use mathlib.Core.Path.{_≡_};
 ghost use Rattle.std.specs.Vec.{made};
-ghost use Rattle.optbook.specs.Answers.{outcome-of, Shared, Answers-to};
+ghost use Rattle.std.specs.Written.{Prints};
+ghost use Rattle.std.specs.declared.option.Option.the-variants.{Some};
+ghost use Rattle.optbook.specs.Answers.{outcome-of, Shared, Answers-to, spaced-text, answer-text};
 use crate::command::Command;
 use crate::tally::Outcome;
 use policy::BasePolicy;
@@ -31,14 +33,13 @@ impl Answer {
 }
 
 pub impl fmt::Display for Answer as AnswerDisplay {
+    ghost shown = { λ a. Some (answer-text a) };
+
     fn fmt<W: fmt::Write>(&self, f: &mut fmt::Formatter<W>) -> fmt::Result {
         match self {
             Answer::Shares(shares) => {
                 write!(f, "shares")?;
-                for share in shares.iter() {
-                    write!(f, " {share}")?;
-                }
-                Ok(())
+                spaced(shares, f)
             }
             Answer::Refused(refusal) => {
                 let number = refusal.number();
@@ -46,6 +47,16 @@ pub impl fmt::Display for Answer as AnswerDisplay {
             }
         }
     }
+}
+
+// The numbers, a blank before each.
+fn spaced<W: fmt::Write>(numbers: &[u32], f: &mut fmt::Formatter<W>) -> fmt::Result
+    ensures { λ r. ⌜ Prints (W·Write .took) (now (f .entry)) r (spaced-text (now (numbers .entry))) (now (f .exit)) ⌝ }
+{
+    for n in numbers {
+        write!(f, " {n}")?;
+    }
+    Ok(())
 }
 
 // Sends a call; only memory can keep it from its answer.

@@ -1,18 +1,15 @@
 -- What an answer tells its caller. Assumes nothing.
 use mathlib.Core.Path.{_≡_, _∙_}
 use mathlib.Core.Logic.{⊎-elim}
-use mathlib.Core.Bool.{true, false, cond}
+use mathlib.Core.Bool.{true}
 use mathlib.Core.List.{List}
 use Prim.Native.Nat.{ℕ, min}
 use native.Mathlib.Omega.{arith}
 use lib.ListN.{length}
 use Rattle.std.proofs.shelf.Tests.{cases-bool, cond-true, cond-false}
-use Rattle.std.specs.declared.result.Result.{Result}
 use Rattle.std.specs.declared.result.Result.the-variants.{Ok, Err}
-use Rattle.policy.specs.Queue.{Queue}
-use Rattle.policy.specs.Fair.{Rule, Fair, Fairly, total}
+use Rattle.policy.specs.Fair.{Rule, Fairly, total}
 use Rattle.policy.specs.Asked.{answered, Answered}
-use Rattle.policy.specs.declared.Refusal.{Refusal}
 use Rattle.policy.specs.declared.Refusal.the-variants.{NotAQueue}
 use Rattle.policy.proofs.Queues.{answered-queue}
 

@@ -2,6 +2,7 @@
 ghost use mathlib.Core.Path.{_≡_};
 ghost use Rattle.policy.specs.Chosen.{base-rule, layered-rule, laid, Chosen-by};
 use crate::Favour;
+use crate::FavourClone;
 use crate::FavourPolicy;
 use crate::Policy;
 use crate::PriceTime;
@@ -9,7 +10,6 @@ use crate::PriceTimePolicy;
 use crate::ProRata;
 use crate::ProRataPolicy;
 use crate::Refusal;
-use crate::favour::FavourClone;
 
 #[derive(Clone, Copy)]
 pub enum Base {

@@ -5,7 +5,7 @@ use native.Mathlib.Omega.{arith}
 use borrow.Author.Needs.{needs}
 use lib.ListN.{length, getD}
 use Rattle.policy.specs.Asked.{answered}
-use Rattle.policy.specs.Favour.{favoured, less}
+use Rattle.policy.specs.Favour.{less}
 use Rattle.policy.proofs.Queues.{answered-queue}
 use Rattle.policy.proofs.Favours.{favoured-le-first, less-queue, first-fits}
 use Rattle.policy.proofs.Asking.{taken-shares}

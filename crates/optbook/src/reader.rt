@@ -1,7 +1,10 @@
 // From a line of a script to the call that it makes.
 ghost use mathlib.Core.Path.{_≡_};
 ghost use Rattle.std.specs.Options.{Cases};
-ghost use Rattle.optbook.specs.Policies.{favour-word, Named};
+ghost use Rattle.std.specs.Vec.{made};
+ghost use Rattle.std.specs.declared.result.Result.the-variants.{Ok};
+ghost use Rattle.optbook.specs.Numbers.{number-read};
+ghost use Rattle.optbook.specs.Policies.{favour-word, Named, Names-policy};
 use crate::command::Command;
 use crate::fault::Fault;
 use crate::fault::FaultFromAlloc;
@@ -52,7 +55,9 @@ fn next<'a>(words: &mut SplitAsciiWhitespace<'a>, part: Part) -> Result<&'a str,
     }
 }
 
-fn counted<'a>(part: Part, word: &'a str) -> Result<u32, Fault<'a>> {
+fn counted<'a>(part: Part, word: &'a str) -> Result<u32, Fault<'a>>
+    ensures { λ r. ⌜ made r (λ n. number-read (now (word .entry)) ≡ Ok n) ⌝ }
+{
     match number(word) {
         Ok(n) => Ok(n),
         Err(Unread::NotDigits) => Err(Fault::NotANumber(part, word)),
@@ -61,7 +66,9 @@ fn counted<'a>(part: Part, word: &'a str) -> Result<u32, Fault<'a>> {
 }
 
 // The policy that a word names: favours, if any, the outermost first, over a base.
-fn policy<'a>(heap: Global, word: &'a str) -> Result<Chosen, Fault<'a>> {
+fn policy<'a>(heap: Global, word: &'a str) -> Result<Chosen, Fault<'a>>
+    ensures { λ r. ⌜ made r (λ p. Names-policy (now (word .entry)) p) ⌝ }
+{
     let mut favours = Vec::new(heap);
     let mut rest = word;
     while let Some((cap, minimum, below)) = favour(rest) {

@@ -1,10 +1,10 @@
 use mathlib.Core.Path.{_≡_, refl, sym, ap, _∙_}
+use mathlib.Core.Bool.{true}
 use mathlib.Core.List.{List, [], _∷_, _++_, append-assoc, append-nil}
 use Prim.Native.Nat.{ℕ, _+_, _<_}
 use lib.ListN.{length, take, getD}
 use Rattle.std.proofs.Writes.{put-more, put-is}
 use Rattle.std.proofs.shelf.Lists.{take-more, take-all}
-use Rattle.std.specs.Results.{isOk}
 use Rattle.std.specs.Written.{decimal}
 use Rattle.optbook.specs.Answers.{spaced-text}
 use Rattle.optbook.proofs.answer.spaced.Needs as need
@@ -23,7 +23,7 @@ loop-n-again g c plain =
     let ns = c .args .numbers .now in
     let i = c .loop-n .n-index in
     let old = c .loop-n .inv plain in
-    let new = c .write .ensures .shows (old .plain) (ap isOk (c .in-Continue-write .was tt)) in
+    let new = c .in-Continue-write .ensures tt .shows (old .plain) (refl {a = true}) in
     put-is (g .W·Write .took) (c .args .f .now) (spaced-text (take i ns) ++ (32 ∷ decimal (getD ns i 0))) (spaced-text (take (i + 1) ns)) (c .write .last .self)
     (one-more ns i (c .loop-n-test .taken))
     (put-more (g .W·Write .took) (c .args .f .now) (spaced-text (take i ns)) (c .loop-n .f) (32 ∷ decimal (getD ns i 0)) (c .write .last .self) old new)

@@ -26,7 +26,7 @@ pub impl fmt::Display for Part as PartDisplay {
     }
 }
 
-// Each fault holds the word that it speaks of.
+// A fault holds the word that it speaks of, which is quoted so that it stays on one line.
 #[derive(Clone, Copy)]
 pub enum Fault<'a> {
     NotText,

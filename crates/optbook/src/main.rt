@@ -11,7 +11,6 @@ use play::play;
 use std::env;
 use std::error::AnyError;
 use std::fs::File;
-use std::io;
 use std::io::BufReader;
 use tally::Tally;
 use tally::TallyDisplay;
@@ -69,6 +68,7 @@ fn play_file(rt: &LibcRuntime, path: &str) -> Result<Tally, AnyError> {
     }
 }
 
+// Prints the summary. An error ends the program with status 1.
 fn finish(rt: &LibcRuntime, tally: Tally) -> Result<(), AnyError> {
     rt.println(tally)?;
     match tally.not_understood {

@@ -13,6 +13,7 @@ use std::io;
 use std::io::BufRead;
 use std::str::from_utf8;
 
+// The count of lines has an end only so that the run is seen to have one.
 pub fn play<R: BufRead + Drop>(rt: &LibcRuntime, mut script: R) -> io::Result<Tally> {
     let mut tally = Tally::new();
     for number in 1..u64::MAX {
@@ -25,6 +26,7 @@ pub fn play<R: BufRead + Drop>(rt: &LibcRuntime, mut script: R) -> io::Result<Ta
     Ok(tally)
 }
 
+// Answers the line, and says what became of it.
 fn report(rt: &LibcRuntime, number: u64, line: &[u8]) -> io::Result<Outcome> {
     match answer(rt.alloc(), line) {
         Ok(None) => Ok(Outcome::Passed),
@@ -39,6 +41,7 @@ fn report(rt: &LibcRuntime, number: u64, line: &[u8]) -> io::Result<Outcome> {
     }
 }
 
+// The answer to the call of a line; none where the line makes no call.
 fn answer(heap: Global, line: &[u8]) -> Result<Option<Answer>, Fault<'_>> {
     let Ok(text) = from_utf8(line) else {
         return Err(Fault::NotText);

@@ -48,6 +48,7 @@ fn share<'a>(heap: Global, mut words: SplitAsciiWhitespace<'a>) -> Result<Comman
     })
 }
 
+// The next word, which stands for the part.
 fn next<'a>(words: &mut SplitAsciiWhitespace<'a>, part: Part) -> Result<&'a str, Fault<'a>> {
     match words.next() {
         Some(word) => Ok(word),
@@ -55,6 +56,7 @@ fn next<'a>(words: &mut SplitAsciiWhitespace<'a>, part: Part) -> Result<&'a str,
     }
 }
 
+// The number that the word writes.
 fn counted<'a>(part: Part, word: &'a str) -> Result<u32, Fault<'a>>
     ensures { λ r. ⌜ made r (λ n. number-read (now (word .entry)) ≡ Ok n) ⌝ }
 {
@@ -93,6 +95,7 @@ fn favour(word: &str) -> Option<(&str, &str, &str)>
     Some((cap, minimum, below))
 }
 
+// The base that the word names.
 fn base(word: &str) -> Option<Base>
     ensures { λ r. ⌜ Named (now (word .entry)) r ⌝ }
 {

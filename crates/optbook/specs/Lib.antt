@@ -1,0 +1,4 @@
+pub mod Numbers
+pub mod Tallies
+pub mod Policies
+pub mod Answers

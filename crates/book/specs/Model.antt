@@ -17,7 +17,7 @@ use Rattle.rules.specs.Machine.{Rules, Machine}
 use Rattle.rules.specs.Steps.{Outcome}
 use Rattle.table.specs.Tables.{open-orders, tape-lines, line-list}
 use Rattle.book.specs.declared.held.Held.{Held}
-use Rattle.book.specs.declared.pre_open.PreOpen.{PreOpen}
+use Rattle.book.specs.declared.phases.Book.{Book}
 
 -- ---- the machine
 
@@ -35,10 +35,6 @@ module _ {O S : Type 0} where
     orders = open-orders (h .table);
   }
 
-  -- A book before its opening.
-  abbrev pub waiting : PreOpen O S → Machine
-  waiting b = machine pre-open (b .held)
-
   -- The rules of the two policies that a book was made of.
   abbrev pub rules-of : (O → Rule) → (S → Rule) → Held O S → Rules
   rules-of opening session h = record { opening = opening (h .opening); session = session (h .session) }
@@ -47,6 +43,10 @@ module _ {O S : Type 0} where
   pub record Same-policies (before after : Held O S) : Type 0 where
     pub opening : after .opening ≡ before .opening
     pub session : after .session ≡ before .session
+
+-- A book before its opening.
+abbrev pub waiting : {P O S : Type 0} → Book P O S → Machine
+waiting b = machine pre-open (b .held)
 
 -- ---- answers
 

@@ -1,4 +1,5 @@
 // The book of one option series.
 pub mod held;
-pub mod pre_open;
+pub mod phases;
+pub mod stage;
 mod trial;

@@ -4,7 +4,8 @@ ghost use Rattle.rules.specs.declared.calls.Answer.the-variants.{Tried};
 ghost use Rattle.rules.specs.declared.calls.Call.the-variants.{Try};
 ghost use Rattle.rules.specs.Steps.{step, tried-order};
 ghost use Rattle.book.specs.Model.{waiting, rules-of, Gives, Same-policies, said};
-use super::PreOpen;
+use super::Book;
+use crate::stage::Waiting;
 use crate::trial::TrialGuard;
 use policy::Policy;
 use rules::calls::Trial;
@@ -14,7 +15,7 @@ use rules::order::Lifetime;
 use rules::order::Order;
 use rules::refusal::Refusal;
 
-impl<O: Policy, S: Policy> PreOpen<O, S> {
+impl<O: Policy, S: Policy> Book<Waiting, O, S> {
     // How the book would open with one limit order more. The order is in the table only while the answer is found.
     pub fn trial(&mut self, t: Trial) -> Result<TrialAnswer, Refusal>
         ensures step { λ r. ⌜ Gives (step (rules-of (O·Policy .rule) (S·Policy .rule) (now (self .entry) .held)) (waiting (now (self .entry))) (Try t)) (said Tried r) (waiting (now (self .exit))) ⌝ }

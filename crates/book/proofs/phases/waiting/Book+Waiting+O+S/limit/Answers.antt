@@ -8,7 +8,7 @@ use Rattle.rules.specs.Checks.{id-checks, limit-terms}
 use Rattle.rules.specs.Steps.{limit-in}
 use Rattle.book.specs.Model.{waiting, rules-of, Gives, Same-policies}
 use Rattle.book.proofs.Verdicts.{refused-first, refused-then, taken-then, limit-room}
-use Rattle.book.proofs.pre_open.PreOpen.limit.Needs as need
+use Rattle.book.proofs.phases.waiting.Book+Waiting+O+S.limit.Needs as need
 
 pub returns-in-Break-check-id : need.returns-in-Break-check-id
 returns-in-Break-check-id g c =

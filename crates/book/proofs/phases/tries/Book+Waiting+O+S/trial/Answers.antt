@@ -11,7 +11,7 @@ use Rattle.table.specs.Tables.{open-orders}
 use Rattle.book.specs.Model.{waiting, Gives, Same-policies}
 use Rattle.book.proofs.Verdicts.{refused-at, taken-at}
 use Rattle.book.proofs.Changes.{cut-off, tried-is}
-use Rattle.book.proofs.pre_open.PreOpen.trial.Needs as need
+use Rattle.book.proofs.phases.tries.Book+Waiting+O+S.trial.Needs as need
 
 pub returns-in-Break-check-trial : need.returns-in-Break-check-trial
 returns-in-Break-check-trial g c =

@@ -6,7 +6,7 @@ use Rattle.rules.specs.Checks.{id-checks, on-open-terms}
 use Rattle.rules.specs.Steps.{Outcome, wait}
 use Rattle.book.specs.Model.{waiting, rules-of, Gives, Same-policies}
 use Rattle.book.proofs.Verdicts.{refused-first, refused-then}
-use Rattle.book.proofs.pre_open.PreOpen.on_open.Needs as need
+use Rattle.book.proofs.phases.waiting.Book+Waiting+O+S.on_open.Needs as need
 
 pub returns-in-Break-check-id : need.returns-in-Break-check-id
 returns-in-Break-check-id g c =

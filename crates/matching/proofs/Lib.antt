@@ -1,1 +1,4 @@
+mod Counts
 mod Loops
+mod Ranks
+mod Walks

@@ -43,22 +43,30 @@ most-part f Offer k xs = omega arith
 pub most-next : (f : ℕ → ℕ) (os : List Order) (i : ℕ) → i < length os → most-of f (prices Bid (drop i os)) ≡ max (most-of f (prices Bid (getD os i blank ∷ []))) (most-of f (prices Bid (drop (i + 1) os)))
 most-next f os i h = at-drop-more (λ xs. most-of f (prices Bid xs)) os i blank h ∙ most-part f (getD os i blank .side) (getD os i blank .kind) (prices Bid (drop (i + 1) os))
 
--- from one order and those behind it
-kept-one : (t : ℕ → Bool) (end : End) (found x : ℕ) (xs : List ℕ) → furthest-from end found (kept-by t (x ∷ xs)) ≡ furthest-from end (furthest-from end found (kept-by t (x ∷ []))) (kept-by t xs)
-kept-one t end found x xs = cond-both (t x) (x ∷ kept-by t xs) (kept-by t xs) (λ z. furthest-from end found z ≡ furthest-from end (furthest-from end found (kept-by t (x ∷ []))) (kept-by t xs))
-    (λ e. rw e)
-    (λ e. rw e)
+-- ---- a fold over the prices that pass, from one order and those behind it
 
-further-part : (t : ℕ → Bool) (end : End) (found : ℕ) (s s′ : Side) (k : Kind) (xs : List ℕ) → furthest-from end found (kept-by t (cond (is s s′) (price-of k xs) xs)) ≡ furthest-from end (furthest-from end found (kept-by t (cond (is s s′) (price-of k []) []))) (kept-by t xs)
-further-part t end found Bid Bid (Limit x) xs = kept-one t end found x xs
-further-part t end found Bid Bid OnOpen xs = refl
-further-part t end found Bid Offer k xs = refl
-further-part t end found Offer Bid k xs = refl
-further-part t end found Offer Offer (Limit x) xs = kept-one t end found x xs
-further-part t end found Offer Offer OnOpen xs = refl
+module _ {A : Type 0} (F : A → List ℕ → A) (nil : (a : A) → F a [] ≡ a) (cons : (a : A) (x : ℕ) (xs : List ℕ) → F a (x ∷ xs) ≡ F (F a (x ∷ [])) xs) (t : ℕ → Bool) where
+  kept-one : (a : A) (x : ℕ) (xs : List ℕ) → F a (kept-by t (x ∷ xs)) ≡ F (F a (kept-by t (x ∷ []))) (kept-by t xs)
+  kept-one a x xs = cond-both (t x) (x ∷ kept-by t xs) (kept-by t xs) (λ z. F a z ≡ F (F a (kept-by t (x ∷ []))) (kept-by t xs))
+      (λ e. rw e (cons a x (kept-by t xs)))
+      (λ e. rw e (ap (λ (b : A). F b (kept-by t xs)) (sym (nil a))))
+
+  none-more : (a : A) (xs : List ℕ) → F a (kept-by t xs) ≡ F (F a []) (kept-by t xs)
+  none-more a xs = ap (λ (b : A). F b (kept-by t xs)) (sym (nil a))
+
+  one-part : (a : A) (s s′ : Side) (k : Kind) (xs : List ℕ) → F a (kept-by t (cond (is s s′) (price-of k xs) xs)) ≡ F (F a (kept-by t (cond (is s s′) (price-of k []) []))) (kept-by t xs)
+  one-part a Bid Bid (Limit x) xs = kept-one a x xs
+  one-part a Bid Bid OnOpen xs = none-more a xs
+  one-part a Bid Offer k xs = none-more a xs
+  one-part a Offer Bid k xs = none-more a xs
+  one-part a Offer Offer (Limit x) xs = kept-one a x xs
+  one-part a Offer Offer OnOpen xs = none-more a xs
+
+  pub price-next : (a : A) (s : Side) (os : List Order) (i : ℕ) → i < length os → F a (kept-by t (prices s (drop i os))) ≡ F (F a (kept-by t (prices s (getD os i blank ∷ [])))) (kept-by t (prices s (drop (i + 1) os)))
+  price-next a s os i h = at-drop-more (λ xs. F a (kept-by t (prices s xs))) os i blank h ∙ one-part a s (getD os i blank .side) (getD os i blank .kind) (prices s (drop (i + 1) os))
 
 pub further-next : (t : ℕ → Bool) (end : End) (found : ℕ) (s : Side) (os : List Order) (i : ℕ) → i < length os → furthest-from end found (kept-by t (prices s (drop i os))) ≡ furthest-from end (furthest-from end found (kept-by t (prices s (getD os i blank ∷ [])))) (kept-by t (prices s (drop (i + 1) os)))
-further-next t end found s os i h = at-drop-more (λ xs. furthest-from end found (kept-by t (prices s xs))) os i blank h ∙ further-part t end found s (getD os i blank .side) (getD os i blank .kind) (prices s (drop (i + 1) os))
+further-next t end found s os i h = price-next (furthest-from end) (λ _. refl) (λ _ _ _. refl) t found s os i h
 
 highest-from : (found : ℕ) (xs : List ℕ) → lowest-price ≤ found → furthest-from Highest found xs ≡ max found (highest xs)
 highest-from found [] h = omega arith

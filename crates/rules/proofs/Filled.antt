@@ -158,7 +158,7 @@ level-alike T s k os = all-weaker (λ o. at s k o ≡ true) (λ o. T (o .side) (
     (λ o e. ap (λ (x : Side). T x (o .kind)) (at-side s (o .side) k (o .kind) e) ∙ ap (λ (x : Kind). T s x) (at-kind s (o .side) k (o .kind) e))
     (level s k os) (kept-by-passes (at s k) os)
 
-queue-total : (s : Side) (k : Kind) (os : List Order) → total (queue s k os) ≡ held (at s k) os
+pub queue-total : (s : Side) (k : Kind) (os : List Order) → total (queue s k os) ≡ held (at s k) os
 queue-total s k [] = refl
 queue-total s k (o ∷ os) = cond-both (at s k o) (o ∷ level s k os) (level s k os) (λ z. total (map (λ o. o .lots) z) ≡ cond (at s k o) (o .lots) 0 + held (at s k) os)
     (λ e. rw e (omega (arith, queue-total s k os)))

@@ -44,7 +44,7 @@ none-here Offer Bid k t n h = refl
 none-here Offer Offer (Limit y) t n h = cond-both (t y) n 0 (λ z. z ≡ 0) (λ e. let q = eq-eqb y y refl in let r = h y e in grind arith) (λ _. refl)
 none-here Offer Offer OnOpen t n h = refl
 
-limits-none : (s : Side) (t : ℕ → Bool) (os : List Order) → ((x : ℕ) → t x ≡ true → lots-at s os x ≡ 0) → limits s t os ≡ 0
+pub limits-none : (s : Side) (t : ℕ → Bool) (os : List Order) → ((x : ℕ) → t x ≡ true → lots-at s os x ≡ 0) → limits s t os ≡ 0
 limits-none s t [] h = refl
 limits-none s t (o ∷ os) h = omega (arith, none-here s (o .side) (o .kind) t (o .lots) (λ x e. omega (arith, h x e)), limits-none s t os (λ x e. omega (arith, h x e)))
 
@@ -231,7 +231,7 @@ serve-levels rule fair terms s t up v os m b alike =
 
 -- ---- some of the levels
 
-kept-sorted : (s : Side) (a : ℕ → Bool) (xs : List ℕ) → Sorted s xs → Sorted s (kept-by a xs)
+pub kept-sorted : (s : Side) (a : ℕ → Bool) (xs : List ℕ) → Sorted s xs → Sorted s (kept-by a xs)
 kept-sorted s a [] h = tt
 kept-sorted s a (x ∷ xs) h = cond-both (a x) (x ∷ kept-by a xs) (kept-by a xs) (Sorted s)
     (λ _. (all-kept-by a (λ y. better-than s y x ≡ true) xs (h .0), kept-sorted s a xs (h .1)))

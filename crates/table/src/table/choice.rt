@@ -10,7 +10,7 @@ use rules::order::Order;
 use rules::order::Side;
 
 impl Prices {
-    fn among(self, side: Side, x: u32) -> bool
+    pub fn among(self, side: Side, x: u32) -> bool
         ensures { λ r. ⌜ r ≡ among self side x ⌝ }
     {
         match self {

@@ -2,3 +2,4 @@ mod Counts
 mod Loops
 mod Ranks
 mod Walks
+mod Entering

@@ -1,3 +1,4 @@
 pub mod Best
 pub mod Ends
 pub mod Steps
+pub mod Entries

@@ -25,7 +25,8 @@ use Rattle.rules.specs.Limits.{lowest-price, highest-price, most-lots, most-or
 use Rattle.rules.specs.Sides.{is, other, better-than, as-good-as}
 use Rattle.rules.specs.Orders.{held, priced, limits, ahead, all-of, prices, same, at, In-range, Book}
 use Rattle.rules.specs.Trades.{ranked, lined}
-use Rattle.rules.specs.Session.{Incoming, accepts, reach, enough, met, rests, resting, Matched, matched}
+use Rattle.rules.specs.declared.incoming.Incoming.{Incoming}
+use Rattle.rules.specs.Session.{accepts, reach, enough, met, rests, resting, Matched, matched}
 use Rattle.rules.specs.Laws.{In}
 use Rattle.rules.proofs.Held.{limits-split, limits-le, lots-at, within-ahead, level-in, in-level}
 use Rattle.rules.proofs.Filled.{account, side-held, of-kind, line-price}

@@ -11,24 +11,14 @@ use Rattle.rules.specs.declared.order.Side.{Side}
 use Rattle.rules.specs.declared.order.Kind.{Kind}
 use Rattle.rules.specs.declared.order.Kind.the-variants.{Limit, OnOpen}
 use Rattle.rules.specs.declared.order.Order.{Order}
-use Rattle.rules.specs.declared.order.Lifetime.{Lifetime}
 use Rattle.rules.specs.declared.tape.TapeLine.{TapeLine}
 use Rattle.rules.specs.declared.tape.Terms.the-variants.{Entry}
 use Rattle.rules.specs.declared.calls.Condition.{Condition}
+use Rattle.rules.specs.declared.incoming.Incoming.{Incoming}
 use Rattle.rules.specs.declared.calls.Condition.the-variants.{Unconditional, Ic, Cv, Mv}
 use Rattle.rules.specs.Sides.{other, as-good-as}
 use Rattle.rules.specs.Orders.{limits}
 use Rattle.rules.specs.Trades.{Step, serve, ranked}
-
--- An incoming order. A market order has no limit.
-pub record Incoming : Type 0 where
-  pub number : ℕ
-  pub id : ℕ
-  pub side : Side
-  pub limit : Option ℕ
-  pub lots : ℕ
-  pub lifetime : Lifetime
-  pub condition : Condition
 
 -- Whether an order of the side may trade at the price x of a resting order.
 abbrev pub accepts : Side → Option ℕ → ℕ → Bool

@@ -1,5 +1,6 @@
 // The vocabulary of one option series, and the rules that contracts cite (specs/).
 pub mod calls;
+pub mod incoming;
 pub mod ladder;
 pub mod laws;
 pub mod line;

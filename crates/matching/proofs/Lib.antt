@@ -1,4 +1,5 @@
 mod Counts
 mod Loops
 mod Ranks
+mod Stages
 mod Walks

@@ -1,5 +1,6 @@
 mod Counts
 mod Loops
 mod Ranks
+mod Stages
 mod Walks
 mod Entering

@@ -1,3 +1,4 @@
+pub mod Answers
 pub mod Best
 pub mod Ends
 pub mod Steps

@@ -1,0 +1,121 @@
+// The opening of a book: its three stages, or the withdrawal of its On-Open orders.
+ghost use mathlib.Core.Path.{_≡_};
+ghost use mathlib.Core.Bool.{true, cond};
+ghost use mathlib.Core.List.{[]};
+ghost use Prim.Native.Nat.{_+_, _≤_, _<_, _^_};
+ghost use lib.ListN.{length};
+ghost use Rattle.rules.specs.Sides.{is};
+ghost use Rattle.rules.specs.Orders.{level};
+ghost use Rattle.rules.specs.Trades.{lined};
+ghost use Rattle.rules.specs.Opening.{stage-one, cross as crossed, stages, opened};
+ghost use Rattle.rules.specs.declared.order.Side.the-variants.{Bid, Offer};
+ghost use Rattle.rules.specs.declared.order.Kind.the-variants.{OnOpen};
+ghost use Rattle.table.specs.Fits.{price-fits};
+ghost use Rattle.table.specs.Tables.{open-orders, tape-lines};
+ghost use Rattle.matching.specs.Answers.{answer-of};
+ghost use Rattle.matching.specs.Steps.{step-of};
+use crate::level::lots_at;
+use crate::level::trade_level;
+use crate::pricing::price;
+use crate::pricing::volume;
+use crate::route::walk;
+use policy::Policy;
+use rules::calls::OpeningAnswer;
+use rules::order::Kind;
+use rules::order::Side;
+use rules::tape::TapeLine;
+use rules::tape::Terms;
+use table::table::Change;
+use table::table::Leaving;
+use table::table::Prices;
+use table::table::Table;
+use table::tape::Tape;
+
+// Stage one: the volume's lots of limit bids and of limit offers trade at the price, the better price first.
+fn trade_limits<P: Policy>(table: &mut Table, tape: &mut Tape, policy: &P, lots: u32, price: u32)
+    requires { ⌜ tape-lines (now tape) ≡ [] ⌝ }
+    ensures exact { λ _. ⌜ step-of (now (table .exit)) (now (tape .exit)) ≡ stage-one (P·Policy .rule (now (policy .entry))) price lots (step-of (now (table .entry)) (now (tape .entry))) ⌝ }
+    ensures lines { λ _. ⌜ length (tape-lines (now (tape .exit))) + (length (level Bid OnOpen (open-orders (now (table .exit)))) + length (level Offer OnOpen (open-orders (now (table .exit))))) ≤ 256 ⌝ }
+{
+    let terms = Terms::Opening(price);
+    walk(table, tape, policy, terms, Side::Bid, Prices::Any, lots);
+    walk(table, tape, policy, terms, Side::Offer, Prices::Any, lots);
+}
+
+// The bids and the offers of one level trade at the price, as many lots as the lesser side holds.
+fn cross<P: Policy>(table: &mut Table, tape: &mut Tape, policy: &P, price: u32, kind: Kind)
+    requires { ⌜ length (tape-lines (now tape)) + (length (level Bid kind (open-orders (now table))) + length (level Offer kind (open-orders (now table)))) ≤ 512 ⌝ }
+    ensures exact { λ _. ⌜ step-of (now (table .exit)) (now (tape .exit)) ≡ crossed (P·Policy .rule (now (policy .entry))) price kind (step-of (now (table .entry)) (now (tape .entry))) ⌝ }
+    ensures lines { λ _. ⌜ length (tape-lines (now (tape .exit))) ≤ length (tape-lines (now (tape .entry))) + (length (level Bid kind (open-orders (now (table .entry)))) + length (level Offer kind (open-orders (now (table .entry))))) ⌝ }
+{
+    let bids = lots_at(table, Side::Bid, kind);
+    let lots = bids.min(lots_at(table, Side::Offer, kind));
+    trade_level(table, tape, policy, price, Side::Bid, kind, lots);
+    trade_level(table, tape, policy, price, Side::Offer, kind, lots);
+}
+
+// The three stages: limit orders with each other; On-Open orders with each other; and what is left of the On-Open
+// orders, as limit orders at the price, with the limit orders there.
+fn trade_opening<P: Policy>(table: &mut Table, tape: &mut Tape, policy: &P, lots: u32, price: u32)
+    requires empty { ⌜ tape-lines (now tape) ≡ [] ⌝ }
+    requires within { ⌜ price-fits price ≡ true ⌝ }
+    ensures { λ _. ⌜ step-of (now (table .exit)) (now (tape .exit)) ≡ stages (P·Policy .rule (now (policy .entry))) price lots (open-orders (now (table .entry))) ⌝ }
+{
+    trade_limits(table, tape, policy, lots, price);
+    cross(table, tape, policy, price, Kind::OnOpen);
+    table.change(Change::Turn(price));
+    cross(table, tape, policy, price, Kind::Limit(price));
+}
+
+// The lots of a bid's line, else none.
+fn bought_by(line: TapeLine) -> u32
+    ensures { λ r. ⌜ r ≡ cond (is Bid (line .side)) (line .lots) 0 ⌝ }
+{
+    if Side::Bid.is(line.side) {
+        line.lots
+    } else {
+        0
+    }
+}
+
+// The lots bought by the lines of a tape.
+fn bought(tape: &Tape) -> u32
+    requires { ⌜ lined (λ n s. is Bid s) (tape-lines (now tape)) < 2 ^ 32 ⌝ }
+    ensures { λ r. ⌜ r ≡ lined (λ n s. is Bid s) (tape-lines (now (tape .entry))) ⌝ }
+{
+    let mut sum = 0;
+    for line in tape.lines() {
+        sum += bought_by(*line);
+    }
+    sum
+}
+
+// Opens a book: with a price its orders trade, without one its On-Open orders are withdrawn.
+pub fn open_orders<P: Policy>(table: &mut Table, tape: &mut Tape, policy: &P) -> OpeningAnswer
+    ensures orders { λ _. ⌜ open-orders (now (table .exit)) ≡ opened (P·Policy .rule (now (policy .entry))) (open-orders (now (table .entry))) .orders ⌝ }
+    ensures written { λ _. ⌜ tape-lines (now (tape .exit)) ≡ opened (P·Policy .rule (now (policy .entry))) (open-orders (now (table .entry))) .tape ⌝ }
+    ensures answer { λ r. ⌜ r ≡ answer-of (opened (P·Policy .rule (now (policy .entry))) (open-orders (now (table .entry)))) ⌝ }
+{
+    tape.clear();
+    let lots = volume(table);
+    match price(table, lots) {
+        Some(p) => {
+            trade_opening(table, tape, policy, lots, p);
+            OpeningAnswer {
+                volume: lots,
+                total: bought(tape),
+                withdrawn: 0,
+                price: Some(p),
+            }
+        }
+        None => {
+            let (bids, offers) = table.withdraw(Leaving::OnOpen);
+            OpeningAnswer {
+                volume: lots,
+                total: 0,
+                withdrawn: bids + offers,
+                price: None,
+            }
+        }
+    }
+}

@@ -6,7 +6,7 @@ use Prim.Native.Nat.{ℕ, _%_, _<_, _≤_}
 use native.Mathlib.Omega.{arith}
 use lib.Dec.{leb, ltb, eqb}
 use lib.ListN.{length}
-use Rattle.std.proofs.shelf.Tests.{leb-false, ltb-false, and-parts}
+use Rattle.std.proofs.shelf.Tests.{leb-false, ltb-false, lt-ltb}
 use Rattle.std.proofs.shelf.Ways.{tells}
 use Rattle.std.specs.declared.option.Option.{Option}
 use Rattle.std.specs.declared.option.Option.the-variants.{Some, None}
@@ -26,6 +26,7 @@ use Rattle.rules.specs.Checks.{outside, full, used-up, room-checks, limit-terms
 use Rattle.rules.specs.Machine.{Machine}
 use Rattle.rules.specs.Steps.{Outcome, outcome, refused, checked}
 use Rattle.table.specs.Fits.{price-fits, entry-fits}
+use Rattle.matching.specs.Entries.{room-for}
 use Rattle.book.specs.Model.{Gives, verdict}
 
 abbrev Verdict : Type 0
@@ -101,6 +102,9 @@ taken-then cs ds m t a n e f k = takes-on (first (cs ++ ds)) m t a n (first-pass
 
 -- ---- what passed checks say of numbers
 
+both-true : (a b : Bool) → a ≡ true → b ≡ true → (a && b) ≡ true
+both-true a b p q = rw (p, q)
+
 pub inside : (low high n : ℕ) → outside low high n ≡ false → (low ≤ n) × (n ≤ high)
 inside low high n e = (grind (arith, tells), grind (arith, tells))
 
@@ -128,3 +132,11 @@ trial-room m t ok =
     let a = passes-all (trial-checks m t) ok in
     let p = taken-price (eqb (t .price % step-at (m .ladder) (t .price)) 0) (t .price) (a .0) in
     record { room = leb-false most-orders (length (m .orders)) (a .1 .1 .0); fits = lots-fit (t .price) (t .lots) p (inside 1 most-lots (t .lots) (a .1 .0)) }
+
+-- what an entry in session needs of the table
+pub may-rest : (m : Machine) (e : LimitEntry) → Passes (limit-terms m e) → (room-for (Some (e .price)) (m .orders) ≡ true) × (e .lots ≤ 9999)
+may-rest m e ok =
+    let a = passes-all (limit-terms m e) ok in
+    let p = taken-price (eqb (e .price % step-at (m .ladder) (e .price)) 0) (e .price) (a .0) in
+    let room = leb-false most-orders (length (m .orders)) (a .1 .1 .1 .1 .1 .0) in
+    (both-true (price-fits (e .price)) (ltb (length (m .orders)) most-orders) p (lt-ltb (length (m .orders)) most-orders room), inside 1 most-lots (e .lots) (a .1 .0) .1)

@@ -7,7 +7,7 @@ use Rattle.std.specs.declared.result.Result.{Result}
 use Rattle.std.specs.declared.result.Result.the-variants.{Ok, Err}
 use Rattle.policy.specs.Fair.{Rule}
 use Rattle.rules.specs.declared.calls.Phase.{Phase}
-use Rattle.rules.specs.declared.calls.Phase.the-variants.{PreOpen as pre-open}
+use Rattle.rules.specs.declared.calls.Phase.the-variants.{PreOpen as pre-open, Open as in-session}
 use Rattle.rules.specs.declared.calls.Answer.{Answer}
 use Rattle.rules.specs.declared.calls.Answer.the-variants.{Entered, Cancelled, Reduced, Dropped, Done, Tried, Refused}
 use Rattle.rules.specs.declared.calls.EntryAnswer.{EntryAnswer}
@@ -18,6 +18,8 @@ use Rattle.rules.specs.Steps.{Outcome}
 use Rattle.table.specs.Tables.{open-orders, tape-lines, line-list}
 use Rattle.book.specs.declared.held.Held.{Held}
 use Rattle.book.specs.declared.phases.Book.{Book}
+use Rattle.book.specs.declared.stage.Waiting.{Waiting}
+use Rattle.book.specs.declared.stage.Trading.{Trading}
 
 -- ---- the machine
 
@@ -44,9 +46,12 @@ module _ {O S : Type 0} where
     pub opening : after .opening ≡ before .opening
     pub session : after .session ≡ before .session
 
--- A book before its opening.
-abbrev pub waiting : {P O S : Type 0} → Book P O S → Machine
+-- A book before its opening, and one in session.
+abbrev pub waiting : {O S : Type 0} → Book Waiting O S → Machine
 waiting b = machine pre-open (b .held)
+
+abbrev pub trading : {O S : Type 0} → Book Trading O S → Machine
+trading b = machine in-session (b .held)
 
 -- ---- answers
 

@@ -7,6 +7,7 @@ use table::tape::Tape;
 
 mod calls;
 mod checks;
+mod entries;
 mod opening;
 
 pub struct Held<O, S> {

@@ -6,6 +6,7 @@ use crate::stage::Waiting;
 mod opening;
 mod reads;
 mod shared;
+mod trading;
 mod tries;
 mod waiting;
 

@@ -5,7 +5,6 @@ ghost use mathlib.Core.List.{[]};
 ghost use Prim.Native.Nat.{_<_};
 ghost use lib.ListN.{length};
 ghost use Rattle.rules.specs.declared.calls.Phase.{Phase as PhaseOf};
-ghost use Rattle.rules.specs.declared.calls.Phase.the-variants.{PreOpen};
 ghost use Rattle.rules.specs.declared.calls.Answer.the-variants.{Entered, Cancelled, Reduced, Dropped, Done};
 ghost use Rattle.rules.specs.Steps.{lifetime-in, wait, cancel, reduce, handed, dropped-lots, take-line-down, bring-line-up, name-successor};
 ghost use Rattle.rules.specs.Machine.{with-orders};
@@ -29,8 +28,8 @@ use table::table::Change;
 use table::table::Leaving;
 
 impl<O, S> Held<O, S> {
-    fn lifetime(&self, t: TimeInForce) -> Lifetime
-        ensures { λ r. ⌜ r ≡ lifetime-in (machine PreOpen (now (self .entry))) t ⌝ }
+    pub(crate) fn lifetime(&self, t: TimeInForce) -> Lifetime
+        ensures { λ r. ⌜ ((phase : PhaseOf) → r ≡ lifetime-in (machine phase (now (self .entry))) t) ⌝ }
     {
         match t {
             TimeInForce::Plain => Lifetime::Plain,

@@ -4,13 +4,14 @@ ghost use mathlib.Core.Bool.{cond};
 ghost use mathlib.Core.List.{[]};
 ghost use Rattle.std.specs.declared.result.Result.the-variants.{Ok, Err};
 ghost use Rattle.rules.specs.Refusals.{first};
-ghost use Rattle.rules.specs.Checks.{outside, minimum-outside, is-plain, limit-allowed, on-open-allowed, day-outside, open-lots, id-checks, room-checks, limit-terms, on-open-terms, order-terms, reduction-terms, line-up-checks, successor-checks, trial-checks};
+ghost use Rattle.rules.specs.Checks.{outside, minimum-outside, is-plain, limit-allowed, on-open-allowed, market-allowed, day-outside, open-lots, id-checks, room-checks, limit-terms, on-open-terms, market-terms, order-terms, reduction-terms, line-up-checks, successor-checks, trial-checks};
 ghost use Rattle.rules.specs.Machine.{Machine};
-ghost use Rattle.rules.specs.declared.calls.Phase.the-variants.{PreOpen};
+ghost use Rattle.rules.specs.declared.calls.Phase.the-variants.{PreOpen, Open};
 ghost use Rattle.book.specs.Model.{machine, verdict};
 use super::Held;
 use rules::calls::Condition;
 use rules::calls::LimitEntry;
+use rules::calls::MarketEntry;
 use rules::calls::OnOpenEntry;
 use rules::calls::Phase;
 use rules::calls::TimeInForce;
@@ -58,6 +59,15 @@ fn limit_allowed(phase: Phase, t: TimeInForce, condition: Condition) -> bool
         (Phase::PreOpen, _) => false,
         (Phase::Open, Condition::Mv(_)) => true,
         (Phase::Open, _) => is_plain(t),
+    }
+}
+
+fn market_allowed(t: TimeInForce, condition: Condition) -> bool
+    ensures { λ r. ⌜ r ≡ market-allowed t condition ⌝ }
+{
+    match condition {
+        Condition::Ic => false,
+        _ => is_plain(t),
     }
 }
 
@@ -122,6 +132,22 @@ impl<O, S> Held<O, S> {
         unless(!on_open_allowed(e.lifetime), Refusal::ModifierNotAllowed)?;
         unless(self.day_outside(e.lifetime), Refusal::DayOutOfRange)?;
         self.check_room()
+    }
+
+    // 4 to 9 of a market entry: it never rests, so a full book takes it.
+    pub(crate) fn check_market(&self, e: MarketEntry) -> Result<(), Refusal>
+        ensures { λ r. ⌜ r ≡ verdict (first (market-terms (machine Open (now (self .entry))) e)) ⌝ }
+    {
+        unless(outside(1, 9_999, e.lots), Refusal::VolumeOutOfRange)?;
+        unless(
+            minimum_outside(e.condition, e.lots),
+            Refusal::MinimumOutOfRange,
+        )?;
+        unless(
+            !market_allowed(e.lifetime, e.condition),
+            Refusal::ModifierNotAllowed,
+        )?;
+        unless(self.next > 4_294_967_294, Refusal::NumbersUsedUp)
     }
 
     pub(crate) fn check_trial(&self, t: Trial) -> Result<(), Refusal>

@@ -46,6 +46,7 @@ const fn on_open(side: Side, lots: u32) -> Lots {
 }
 
 // What an opening answers, and what it leaves.
+#[derive(Drop)]
 struct Opened<'a> {
     price: Option<u32>,
     volume: u32,

@@ -1,4 +1,7 @@
-pub mod Numbers
 pub mod Tallies
-pub mod Policies
+pub mod Words
+pub mod Pages
 pub mod Answers
+pub mod Desks
+pub mod Ledgers
+pub mod Runs

@@ -1,18 +1,21 @@
 // optbook: plays a script of calls, and answers each with a line.
 mod answer;
-mod command;
-mod fault;
-mod numbers;
+mod desk;
+mod ledger;
+mod page;
 mod play;
-mod reader;
+mod run;
+mod share;
 mod tally;
+mod word;
 
+use ledger::BalanceDisplay;
+use play::Summary;
 use play::play;
 use std::env;
 use std::error::AnyError;
 use std::fs::File;
 use std::io::BufReader;
-use tally::Tally;
 use tally::TallyDisplay;
 
 const HELP: &str = "\
@@ -23,13 +26,27 @@ usage: optbook [FILE]     play the script in FILE, or the one on standard input
 
 A script has one call to a line. Blank lines, and lines that begin with #, are passed over.
 
-  share POLICY LOTS PLACE PLACE ..
-      How a policy shares LOTS over a queue, the earliest place first. Answers: shares S S ..
-      POLICY is price-time, pro-rata or favour:CAP:MIN:POLICY, with at most four favours.
+  share POLICY LOTS PLACE PLACE ..                 shares S S ..
+  book LADDER TODAY LAST FIRST OPENING SESSION     made
+  limit ID SIDE PRICE LOTS [LIFETIME] [CONDITION]  entered N traded T withdrawn W open O
+  on-open ID SIDE LOTS [LIFETIME]                  entered N traded T withdrawn W open O
+  cancel ID NUMBER                                 cancelled W
+  reduce ID NUMBER LOTS                            open O
+  line-down ID                                     withdrawn BIDS OFFERS
+  line-up ID                                       done
+  successor ID OTHER                               done
+  trial SIDE PRICE LOTS                            price P|none volume V
+  show                                             phase, session, day and the open orders
+  market, close                                    wrong phase (before the opening)
 
-A call that the rules refuse answers 'refused' and a number. A line that is not understood
-answers 'line', its number and what is wrong; the run goes on, and ends with status 1.
-The last line is the summary.
+LADDER is securities, index or bond. OPENING and SESSION are policies.
+POLICY is price-time, pro-rata or favour:CAP:MIN:POLICY, with at most four favours.
+SIDE is bid or offer. LIFETIME is plain, gis, gtc or gtc:DAY. CONDITION is ic, cv or mv:MIN.
+
+A call that the rules refuse answers 'refused' and a number, one that the phase does not offer
+'wrong phase'. A line that is not understood answers 'line', its number and what is wrong; the
+run goes on, and ends with status 1. Last come the lots of the last book, if one was made, and
+the summary. docs/FORMAT.md has the whole format.
 
   $ echo 'share pro-rata 4 5 3 2' | optbook
   shares 2 2 0
@@ -37,14 +54,14 @@ The last line is the summary.
 ";
 
 fn main(rt: LibcRuntime) -> Result<(), AnyError> {
-    let result = run(&rt);
+    let result = start(&rt);
     if let Err(error) = &result {
         eprintln!(rt, "optbook: {error}")?;
     }
     result
 }
 
-fn run(rt: &LibcRuntime) -> Result<(), AnyError> {
+fn start(rt: &LibcRuntime) -> Result<(), AnyError> {
     let mut words = env::args(rt)?.skip(1);
     let Some(name) = words.next() else {
         return finish(rt, play(rt, BufReader::new(rt.stdin()))?);
@@ -61,17 +78,20 @@ fn run(rt: &LibcRuntime) -> Result<(), AnyError> {
     }
 }
 
-fn play_file(rt: &LibcRuntime, path: &str) -> Result<Tally, AnyError> {
+fn play_file(rt: &LibcRuntime, path: &str) -> Result<Summary, AnyError> {
     match File::open(rt, path) {
         Ok(file) => Ok(play(rt, BufReader::new(file))?),
         Err(error) => Err(format!(rt.alloc(), "cannot read {path}: {error}")?.into()),
     }
 }
 
-// Prints the summary. An error ends the program with status 1.
-fn finish(rt: &LibcRuntime, tally: Tally) -> Result<(), AnyError> {
-    rt.println(tally)?;
-    match tally.not_understood {
+// Prints the lots of the last book and the summary. An error ends the program with status 1.
+fn finish(rt: &LibcRuntime, summary: Summary) -> Result<(), AnyError> {
+    if let Some(balance) = summary.balance {
+        rt.println(balance)?;
+    }
+    rt.println(summary.tally)?;
+    match summary.tally.not_understood {
         0 => Ok(()),
         _ => Err("not every line was understood".into()),
     }

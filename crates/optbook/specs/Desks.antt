@@ -1,0 +1,58 @@
+-- What the book at hand answers, and what is shown of it.
+use mathlib.Core.Path.{_≡_}
+use mathlib.Core.List.{List, []}
+use Prim.Native.Nat.{ℕ}
+use Rattle.std.specs.Of.Vec.{vec-items}
+use Rattle.std.specs.declared.option.Option.{Option}
+use Rattle.std.specs.declared.option.Option.the-variants.{Some, None}
+use Rattle.policy.specs.Chosen.{chosen-rule}
+use Rattle.policy.specs.Fair.{Rule}
+use Rattle.rules.specs.declared.calls.Answer.{Answer}
+use Rattle.rules.specs.declared.calls.Answer.the-variants.{WrongPhase}
+use Rattle.rules.specs.declared.calls.Call.{Call}
+use Rattle.rules.specs.declared.calls.Call.the-variants.{OpenBook}
+use Rattle.rules.specs.declared.order.Order.{Order}
+use Rattle.rules.specs.Machine as machine
+use Rattle.rules.specs.Machine.{Machine}
+use Rattle.rules.specs.Steps.{step}
+use Rattle.book.specs.Model.{waiting, rules-of, Gives, Same-policies}
+use Rattle.book.specs.declared.pre_open.PreOpen.{PreOpen}
+use Rattle.script.specs.declared.command.Making.{Making}
+use Rattle.optbook.specs.declared.desk.Desk.{Desk}
+use Rattle.optbook.specs.declared.desk.Desk.the-variants.{Empty, Waiting}
+use Rattle.optbook.specs.declared.page.Page.{Page}
+
+-- A book before its opening that is asked a call answers as the machine's step does, and is left as the step leaves
+-- it. An opening, which would use the book up, is not asked.
+pub record Asked {O S : Type 0} (opening : O → Rule) (session : S → Rule) (before : PreOpen O S) (call : Call) (answer : Answer) (after : PreOpen O S) : Type 0 where
+  pub gives : (call ≡ OpenBook → ⊥) → Gives (step (rules-of opening session (before .held)) (waiting before) call) answer (waiting after)
+  pub policies : Same-policies (before .held) (after .held)
+
+-- Where there is no book, no call is offered.
+abbrev pub Sent : Desk → Call → Answer → Desk → Type 0
+Sent Empty call answer after = (answer ≡ WrongPhase) × (after ≡ Empty)
+Sent (Waiting before) call answer Empty = ⊥
+Sent (Waiting before) call answer (Waiting after) = Asked chosen-rule chosen-rule before call answer after
+
+-- The book is made of what the line says.
+abbrev pub Made : Making → Desk → Type 0
+Made m Empty = ⊥
+Made m (Waiting book) =
+    (waiting book ≡ machine.made (m .ladder) (m .today) (m .last) (m .first)) × (book .held .opening ≡ m .opening) × (book .held .session ≡ m .session)
+
+abbrev pub desk-orders : Desk → List Order
+desk-orders Empty = []
+desk-orders (Waiting book) = waiting book .orders
+
+-- The page is what the machine holds.
+pub record Holds (m : Machine) (page : Page) : Type 0 where
+  pub phase : page .phase ≡ m .phase
+  pub hours : page .hours ≡ m .hours
+  pub today : page .today ≡ m .today
+  pub orders : vec-items (page .orders) ≡ m .orders
+
+abbrev pub Paged : Desk → Option Page → Type 0
+Paged Empty None = Unit {0}
+Paged Empty (Some page) = ⊥
+Paged (Waiting book) None = ⊥
+Paged (Waiting book) (Some page) = Holds (waiting book) page

@@ -1,4 +1,5 @@
 -- How the lots of a book are counted. Assumes nothing.
+use mathlib.Core.Bool.{cond}
 use mathlib.Core.List.{List, [], _∷_, _++_}
 use Prim.Native.Nat.{ℕ, _+_, _-_, _^_, min}
 use lib.Chars.{codes}
@@ -8,6 +9,10 @@ use Rattle.rules.specs.declared.calls.Answer.the-variants.{Entered, Cancelled, 
 use Rattle.rules.specs.declared.calls.Call.{Call}
 use Rattle.rules.specs.declared.calls.Call.the-variants.{EnterLimit, EnterOnOpen, EnterMarket, Cancel, Reduce, TakeLineDown, BringLineUp, NameSuccessor, Try, OpenBook, CloseBook}
 use Rattle.rules.specs.declared.order.Order.{Order}
+use Rattle.rules.specs.declared.order.Side.{Side}
+use Rattle.rules.specs.declared.order.Side.the-variants.{Bid, Offer}
+use Rattle.rules.specs.declared.tape.TapeLine.{TapeLine}
+use Rattle.rules.specs.Sides.{is}
 use Rattle.optbook.specs.declared.ledger.Ledger.{Ledger}
 use Rattle.optbook.specs.declared.ledger.Balance.{Balance}
 
@@ -69,9 +74,17 @@ accepted-by call (Closed pair) = 0
 accepted-by call (Refused refusal) = 0
 accepted-by call WrongPhase = 0
 
-abbrev pub noted : Ledger → Call → Answer → Ledger
-noted l call answer =
-    record { accepted = plus (l .accepted) (accepted-by call answer); withdrawn = plus (l .withdrawn) (withdrawn-by call answer); bought = l .bought; sold = l .sold }
+-- The lots of a line of the side, else none; a count with those of a tape.
+abbrev pub line-lots : Side → TapeLine → ℕ
+line-lots s l = cond (is s (l .side)) (l .lots) 0
+
+abbrev pub traded-lots : Side → ℕ → List TapeLine → ℕ
+traded-lots s count [] = count
+traded-lots s count (l ∷ ls) = traded-lots s (plus count (line-lots s l)) ls
+
+abbrev pub noted : Ledger → Call → Answer → List TapeLine → Ledger
+noted l call answer tape =
+    record { accepted = plus (l .accepted) (accepted-by call answer); withdrawn = plus (l .withdrawn) (withdrawn-by call answer); bought = traded-lots Bid (l .bought) tape; sold = traded-lots Offer (l .sold) tape }
 
 -- The lots of the orders, over those counted so far.
 abbrev pub open-lots : ℕ → List Order → ℕ

@@ -14,6 +14,7 @@ use Rattle.rules.specs.declared.order.Kind.the-variants.{Limit, OnOpen}
 use Rattle.rules.specs.declared.order.Lifetime.{Lifetime}
 use Rattle.rules.specs.declared.order.Lifetime.the-variants.{Plain, Gis, Gtc}
 use Rattle.rules.specs.declared.order.Side.{Side}
+use Rattle.rules.specs.declared.tape.TapeLine.{TapeLine}
 use Rattle.rules.specs.declared.order.Side.the-variants.{Bid, Offer}
 
 abbrev pub side-word : Side → List ℕ
@@ -40,3 +41,6 @@ phase-word Open = codes "open"
 abbrev pub hours-word : Hours → List ℕ
 hours-word Day = codes "day"
 hours-word Evening = codes "evening"
+
+abbrev pub tape-word : TapeLine → List ℕ
+tape-word l = codes "tape " ++ (decimal (l .number) ++ (codes " " ++ (side-word (l .side) ++ (codes " " ++ (decimal (l .price) ++ (codes " " ++ decimal (l .lots)))))))

@@ -1,5 +1,8 @@
 // The book at hand, in whichever phase, apart from its methods: a file of specs/ names it.
-use book::pre_open::PreOpen;
+use book::phases::PreOpen;
+use book::phases::Session;
+use book::stage::TradingStage;
+use book::stage::WaitingStage;
 use policy::BasePolicy;
 use policy::Chosen;
 use policy::LayeredPolicy;
@@ -12,6 +15,8 @@ pub enum Desk {
     Empty,
     // A book before its opening.
     Waiting(PreOpen<Chosen, Chosen>),
+    // A book in session.
+    Trading(Session<Chosen, Chosen>),
 }
 
 // A book is never lost in silence, so a desk that goes takes its book apart.
@@ -20,6 +25,9 @@ impl Drop for Desk {
         match self {
             Desk::Empty => {}
             Desk::Waiting(book) => {
+                let _ = book.end();
+            }
+            Desk::Trading(book) => {
                 let _ = book.end();
             }
         }

@@ -5,6 +5,9 @@ use crate::ledger::Balance;
 use crate::run::Run;
 use crate::tally::Outcome;
 use crate::tally::Tally;
+use crate::word::TapeWord;
+use crate::word::Word;
+use rules::tape::TapeLine;
 use script::command::Command;
 use script::fault::Fault;
 use script::fault::FaultDisplay;
@@ -45,6 +48,7 @@ fn report(rt: &LibcRuntime, run: Run, number: u64, line: &[u8]) -> io::Result<(R
         Ok(None) => Ok((run, Outcome::Passed)),
         Ok(Some(answer)) => {
             rt.println(&answer)?;
+            print_tape(rt, run.written(&answer))?;
             Ok((run, answer.outcome()))
         }
         Err(fault) => {
@@ -52,6 +56,13 @@ fn report(rt: &LibcRuntime, run: Run, number: u64, line: &[u8]) -> io::Result<(R
             Ok((run, Outcome::NotUnderstood))
         }
     }
+}
+
+fn print_tape(rt: &LibcRuntime, tape: &[TapeLine]) -> io::Result<()> {
+    for line in tape {
+        rt.println(Word(*line))?;
+    }
+    Ok(())
 }
 
 // The run after the line, and the answer; none where the line asks for nothing.

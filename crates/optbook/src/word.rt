@@ -1,11 +1,12 @@
 // How the script format writes sides, prices, lifetimes and phases.
 ghost use Rattle.std.specs.declared.option.Option.the-variants.{Some};
-ghost use Rattle.optbook.specs.Words.{side-word, kind-word, price-word, lifetime-word, phase-word, hours-word};
+ghost use Rattle.optbook.specs.Words.{side-word, kind-word, price-word, lifetime-word, phase-word, hours-word, tape-word};
 use rules::calls::Hours;
 use rules::calls::Phase;
 use rules::order::Kind;
 use rules::order::Lifetime;
 use rules::order::Side;
+use rules::tape::TapeLine;
 use std::fmt;
 
 // A value that is printed as its word.
@@ -76,5 +77,20 @@ pub impl fmt::Display for Word<Hours> as HoursWord {
             Hours::Day => write!(f, "day"),
             Hours::Evening => write!(f, "evening"),
         }
+    }
+}
+
+pub impl fmt::Display for Word<TapeLine> as TapeWord {
+    ghost shown = { λ w. Some (tape-word (w .0)) };
+
+    fn fmt<W: fmt::Write>(&self, f: &mut fmt::Formatter<W>) -> fmt::Result {
+        let TapeLine {
+            number,
+            side,
+            price,
+            lots,
+        } = self.0;
+        let side = Word(side);
+        write!(f, "tape {number} {side} {price} {lots}")
     }
 }

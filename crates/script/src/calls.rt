@@ -24,7 +24,7 @@ pub fn call<'a>(name: &'a str, words: &mut SplitAsciiWhitespace<'a>) -> Result<C
         "line-up" => Ok(Call::BringLineUp(next_id(words, Part::Id)?)),
         "successor" => successor(words),
         "trial" => Ok(Call::Try(trial(words)?)),
-        "close" => Ok(Call::CloseBook),
+        "open" => Ok(Call::OpenBook),
         _ => Err(Fault::UnknownCall(name)),
     }
 }

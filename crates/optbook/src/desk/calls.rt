@@ -3,9 +3,12 @@ ghost use mathlib.Core.Path.{_≡_};
 ghost use Rattle.rules.specs.declared.calls.Answer.the-variants.{Entered, Cancelled, Reduced, Dropped, Done, Tried};
 ghost use Rattle.rules.specs.Steps.{step};
 ghost use Rattle.book.specs.Model.{waiting, rules-of, said};
-ghost use Rattle.optbook.specs.Desks.{Asked, Made, Sent};
+ghost use Rattle.optbook.specs.Desks.{Asked, Asked-open, Made, Sent};
 use super::Desk;
-use book::pre_open::PreOpen;
+use book::phases::PreOpen;
+use book::phases::Session;
+use book::stage::TradingStage;
+use book::stage::WaitingStage;
 use policy::BasePolicy;
 use policy::LayeredPolicy;
 use policy::Policy;
@@ -87,6 +90,23 @@ fn ask<O: Policy, S: Policy>(book: &mut PreOpen<O, S>, call: Call) -> Answer
     }
 }
 
+// A call of a book in session. No call closes it yet.
+fn ask_open<O: Policy, S: Policy>(book: &mut Session<O, S>, call: Call) -> Answer
+    ensures { λ r. ⌜ Asked-open (O·Policy .rule) (S·Policy .rule) (now (book .entry)) call r (now (book .exit)) ⌝ }
+{
+    match call {
+        Call::EnterLimit(entry) => entered(book.limit(entry)),
+        Call::EnterMarket(entry) => entered(book.market(entry)),
+        Call::Cancel { id, number } => cancelled(book.cancel(id, number)),
+        Call::Reduce { id, number, lots } => reduced(book.reduce(id, number, lots)),
+        Call::TakeLineDown(id) => dropped(book.line_down(id)),
+        Call::BringLineUp(id) => done(book.line_up(id)),
+        Call::NameSuccessor { id, successor } => done(book.successor(id, successor)),
+        Call::EnterOnOpen(_) | Call::Try(_) | Call::OpenBook | Call::CloseBook =>
+            Answer::WrongPhase,
+    }
+}
+
 impl Desk {
     pub fn made(m: Making) -> Desk
         ensures { λ r. ⌜ Made m r ⌝ }
@@ -99,9 +119,19 @@ impl Desk {
     {
         match self {
             Desk::Empty => (Desk::Empty, Answer::WrongPhase),
-            Desk::Waiting(mut book) => {
-                let answer = ask(&mut book, call);
-                (Desk::Waiting(book), answer)
+            Desk::Waiting(mut book) => match call {
+                Call::OpenBook => {
+                    let (book, answer) = book.open();
+                    (Desk::Trading(book), Answer::Opened(answer))
+                }
+                call => {
+                    let answer = ask(&mut book, call);
+                    (Desk::Waiting(book), answer)
+                }
+            },
+            Desk::Trading(mut book) => {
+                let answer = ask_open(&mut book, call);
+                (Desk::Trading(book), answer)
             }
         }
     }

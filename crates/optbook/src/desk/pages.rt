@@ -2,13 +2,17 @@
 ghost use Rattle.std.specs.Vec.{made};
 ghost use Rattle.optbook.specs.Desks.{Paged};
 ghost use mathlib.Core.Path.{_≡_};
-ghost use Rattle.optbook.specs.Desks.{desk-orders};
+ghost use Rattle.optbook.specs.Desks.{desk-orders, desk-tape};
 use super::Desk;
 use crate::page::Page;
+use book::stage::TradingStage;
+use book::stage::WaitingStage;
 use policy::BasePolicy;
 use policy::LayeredPolicy;
+use rules::calls::Answer;
 use rules::calls::Phase;
 use rules::order::Order;
+use rules::tape::TapeLine;
 use std::alloc::AllocError;
 use std::alloc::Global;
 
@@ -28,6 +32,15 @@ impl Desk {
                     orders,
                 }))
             }
+            Desk::Trading(book) => {
+                let orders = book.orders().to_vec(heap)?;
+                Ok(Some(Page {
+                    phase: Phase::Open,
+                    hours: book.hours(),
+                    today: book.today(),
+                    orders,
+                }))
+            }
         }
     }
 
@@ -38,6 +51,18 @@ impl Desk {
         match self {
             Desk::Empty => &[],
             Desk::Waiting(book) => book.orders(),
+            Desk::Trading(book) => book.orders(),
+        }
+    }
+
+    // The tape that a call wrote, by its answer: an opening and each entry in session write one.
+    pub fn written(&self, answer: Answer) -> &[TapeLine]
+        ensures { λ r. ⌜ now r ≡ desk-tape (now (self .entry)) answer ⌝ }
+    {
+        match (self, answer) {
+            (Desk::Trading(book), Answer::Entered(_)) => book.tape(),
+            (Desk::Trading(book), Answer::Opened(_)) => book.tape(),
+            _ => &[],
         }
     }
 }

@@ -1,12 +1,14 @@
 // How a ledger is kept.
 ghost use mathlib.Core.Path.{_≡_};
 ghost use Rattle.std.specs.declared.option.Option.the-variants.{Some};
-ghost use Rattle.optbook.specs.Ledgers.{blank, volume-of, accepted-by, withdrawn-by, noted, open-lots, balance-text};
+ghost use Rattle.optbook.specs.Ledgers.{blank, volume-of, accepted-by, withdrawn-by, noted, line-lots, traded-lots, open-lots, balance-text};
 use super::Balance;
 use super::Ledger;
 use rules::calls::Answer;
 use rules::calls::Call;
 use rules::order::Order;
+use rules::order::Side;
+use rules::tape::TapeLine;
 use std::fmt;
 
 // The volume of an entry.
@@ -58,13 +60,37 @@ impl Ledger {
         }
     }
 
-    // Before the opening nothing trades, so no call adds to what is bought and sold.
-    pub fn note(&mut self, call: Call, answer: Answer)
-        ensures { λ _. ⌜ now (self .exit) ≡ noted (now (self .entry)) call answer ⌝ }
+    // The tape is the one that the call wrote.
+    pub fn note(&mut self, call: Call, answer: Answer, tape: &[TapeLine])
+        ensures { λ _. ⌜ now (self .exit) ≡ noted (now (self .entry)) call answer (now (tape .entry)) ⌝ }
     {
         self.accepted = self.accepted.saturating_add(accepted(call, answer) as u64);
         self.withdrawn = self.withdrawn.saturating_add(withdrawn(call, answer));
+        self.bought = traded(self.bought, tape, Side::Bid);
+        self.sold = traded(self.sold, tape, Side::Offer);
     }
+}
+
+// The lots of a line of the side, else none.
+fn line_lots(line: TapeLine, side: Side) -> u64
+    ensures { λ r. ⌜ r ≡ line-lots side line ⌝ }
+{
+    if side.is(line.side) {
+        line.lots as u64
+    } else {
+        0
+    }
+}
+
+// A count, with the lots of a tape's lines of the side.
+fn traded(count: u64, tape: &[TapeLine], side: Side) -> u64
+    ensures { λ r. ⌜ r ≡ traded-lots side count (now (tape .entry)) ⌝ }
+{
+    let mut total = count;
+    for line in tape {
+        total = total.saturating_add(line_lots(*line, side));
+    }
+    total
 }
 
 // The lots that the orders still hold.

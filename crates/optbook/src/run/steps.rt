@@ -1,6 +1,6 @@
 // What a run does with a command.
 ghost use mathlib.Core.Path.{_≡_};
-ghost use Rattle.optbook.specs.Runs.{Obeyed, Done, Shows, started, Stands};
+ghost use Rattle.optbook.specs.Runs.{Obeyed, Done, Shows, started, Stands, run-tape};
 use super::Run;
 use crate::answer::Answer;
 use crate::desk::Desk;
@@ -10,6 +10,7 @@ use crate::ledger::open_lots;
 use crate::share::share;
 use rules::calls;
 use rules::calls::Call;
+use rules::tape::TapeLine;
 use script::command::Command;
 use std::alloc::AllocError;
 use std::alloc::Global;
@@ -58,7 +59,7 @@ impl Run {
     {
         let Run { desk, mut ledger } = self;
         let (desk, answer) = desk.send(call);
-        ledger.note(call, answer);
+        ledger.note(call, answer, desk.written(answer));
         (Run { desk, ledger }, answer)
     }
 
@@ -71,13 +72,23 @@ impl Run {
         }
     }
 
+    // The tape that the call behind an answer wrote.
+    pub fn written(&self, answer: &Answer) -> &[TapeLine]
+        ensures { λ r. ⌜ now r ≡ run-tape (now (self .entry)) (now (answer .entry)) ⌝ }
+    {
+        match answer {
+            Answer::Called(answer) => self.desk.written(*answer),
+            _ => &[],
+        }
+    }
+
     // What became of the lots of the last book; none where no book was made.
     pub fn balance(&self) -> Option<Balance>
         ensures { λ r. ⌜ Stands (now (self .entry)) r ⌝ }
     {
         match self.desk {
             Desk::Empty => None,
-            Desk::Waiting(_) => Some(Balance {
+            Desk::Waiting(_) | Desk::Trading(_) => Some(Balance {
                 ledger: self.ledger,
                 open: open_lots(self.desk.orders()),
             }),

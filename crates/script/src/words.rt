@@ -1,4 +1,7 @@
 // The words that name a ladder, a side, a lifetime or a condition.
+ghost use Rattle.std.specs.Options.{Cases};
+ghost use Rattle.std.specs.Vec.{made};
+ghost use Rattle.script.specs.Modifiers.{Writes-lifetime, Writes-condition};
 ghost use Rattle.script.specs.Words.{Names, ladder-name, side-name};
 use crate::fault::Fault;
 use crate::fault::Part;
@@ -31,7 +34,9 @@ pub fn side(word: &str) -> Option<Side>
 }
 
 // plain, gis, gtc or gtc:DAY; none where the word is no lifetime.
-pub fn lifetime(word: &str) -> Result<Option<TimeInForce>, Fault<'_>> {
+pub fn lifetime(word: &str) -> Result<Option<TimeInForce>, Fault<'_>>
+    ensures { λ r. ⌜ made r (λ o. Cases o (Unit {0}) (Writes-lifetime (now (word .entry)))) ⌝ }
+{
     match word {
         "plain" => Ok(Some(TimeInForce::Plain)),
         "gis" => Ok(Some(TimeInForce::Gis)),
@@ -44,7 +49,9 @@ pub fn lifetime(word: &str) -> Result<Option<TimeInForce>, Fault<'_>> {
 }
 
 // ic, cv or mv:MIN; none where the word is no condition.
-pub fn condition(word: &str) -> Result<Option<Condition>, Fault<'_>> {
+pub fn condition(word: &str) -> Result<Option<Condition>, Fault<'_>>
+    ensures { λ r. ⌜ made r (λ o. Cases o (Unit {0}) (Writes-condition (now (word .entry)))) ⌝ }
+{
     match word {
         "ic" => Ok(Some(Condition::Ic)),
         "cv" => Ok(Some(Condition::Cv)),

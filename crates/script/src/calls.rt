@@ -25,6 +25,7 @@ pub fn call<'a>(name: &'a str, words: &mut SplitAsciiWhitespace<'a>) -> Result<C
         "successor" => successor(words),
         "trial" => Ok(Call::Try(trial(words)?)),
         "open" => Ok(Call::OpenBook),
+        "close" => Ok(Call::CloseBook),
         _ => Err(Fault::UnknownCall(name)),
     }
 }

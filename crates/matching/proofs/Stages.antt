@@ -24,7 +24,6 @@ use Rattle.rules.specs.Price.{volume, price, price-at}
 use Rattle.rules.specs.Orders.{held, priced, prices, same, at, on-open, level, Book}
 use Rattle.rules.specs.Trades.{Step, fill, serve, ranked, levels, lined}
 use Rattle.rules.specs.Opening.{stage-one, lesser, cross, turned, stages, Opened, opened-at, opened}
-use Rattle.rules.specs.Laws.{In}
 use Rattle.rules.proofs.Held.{lots-at, held-fits}
 use Rattle.rules.proofs.Prices.{clears}
 use Rattle.rules.proofs.Openings.{opening-keeps}

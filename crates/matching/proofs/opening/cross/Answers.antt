@@ -1,15 +1,14 @@
-use mathlib.Core.Path.{_≡_, sym, ap, _∙_}
-use Prim.Native.Nat.{ℕ, min}
+use mathlib.Core.Path.{_≡_, ap, _∙_}
+use Prim.Native.Nat.{ℕ}
 use native.Mathlib.Omega.{arith}
 use lib.ListN.{length}
 use Rattle.policy.specs.Fair.{Rule}
 use Rattle.rules.specs.declared.order.Side.the-variants.{Bid, Offer}
 use Rattle.rules.specs.declared.order.Kind.{Kind}
 use Rattle.rules.specs.declared.tape.Terms.the-variants.{Opening}
-use Rattle.rules.specs.Orders.{held, at, level}
+use Rattle.rules.specs.Orders.{level}
 use Rattle.rules.specs.Trades.{Step, fill}
 use Rattle.rules.specs.Opening.{lesser, cross}
-use Rattle.table.specs.Tables.{open-orders}
 use Rattle.table.proofs.Fit.{table-book}
 use Rattle.matching.specs.Steps.{step-of}
 use Rattle.matching.proofs.Counts.{fill-lines}

@@ -1,18 +1,16 @@
 use mathlib.Core.Path.{_≡_, sym, ap, _∙_}
 use mathlib.Core.Bool.{_&&_}
-use Prim.Native.Nat.{ℕ, _+_, _<_}
+use Prim.Native.Nat.{ℕ, _+_}
 use native.Mathlib.Omega.{arith}
 use Rattle.std.specs.declared.option.Option.the-variants.{Some, None}
-use Rattle.rules.specs.declared.calls.OpeningAnswer.{OpeningAnswer}
 use Rattle.rules.specs.declared.order.Side.the-variants.{Bid, Offer}
 use Rattle.rules.specs.declared.order.Order.{Order}
-use Rattle.rules.specs.declared.tape.TapeLine.{TapeLine}
 use Rattle.rules.specs.Sides.{is}
 use Rattle.rules.specs.Orders.{held, on-open}
 use Rattle.rules.specs.Trades.{Step, lined}
 use Rattle.rules.specs.Opening.{Opened, stages}
 use Rattle.rules.proofs.Held.{held-fits}
-use Rattle.table.specs.Tables.{open-orders, tape-lines}
+use Rattle.table.specs.Tables.{open-orders}
 use Rattle.table.proofs.Fit.{table-book}
 use Rattle.matching.specs.Answers.{answer-of}
 use Rattle.matching.proofs.Stages.{opened-is, price-is, price-within, bought-few, withdrawn-both}

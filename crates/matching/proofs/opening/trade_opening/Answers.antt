@@ -1,9 +1,7 @@
-use mathlib.Core.Path.{_≡_, ap}
+use mathlib.Core.Path.{_≡_}
 use mathlib.Core.List.{[]}
 use native.Mathlib.Omega.{arith}
-use lib.ListN.{length}
 use Rattle.rules.specs.declared.order.Kind.the-variants.{Limit}
-use Rattle.rules.specs.Trades.{Step}
 use Rattle.rules.specs.Opening.{turned}
 use Rattle.table.specs.Tables.{open-orders, tape-lines}
 use Rattle.table.proofs.Fit.{table-book}

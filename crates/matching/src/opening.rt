@@ -7,7 +7,7 @@ ghost use lib.ListN.{length};
 ghost use Rattle.rules.specs.Sides.{is};
 ghost use Rattle.rules.specs.Orders.{level};
 ghost use Rattle.rules.specs.Trades.{lined};
-ghost use Rattle.rules.specs.Opening.{stage-one, cross as crossed, stages, opened};
+ghost use Rattle.rules.specs.Opening.{stage-one, lesser as lesser-of, cross as crossed, stages, opened};
 ghost use Rattle.rules.specs.declared.order.Side.the-variants.{Bid, Offer};
 ghost use Rattle.rules.specs.declared.order.Kind.the-variants.{OnOpen};
 ghost use Rattle.table.specs.Fits.{price-fits};
@@ -42,14 +42,21 @@ fn trade_limits<P: Policy>(table: &mut Table, tape: &mut Tape, policy: &P, lots:
     walk(table, tape, policy, terms, Side::Offer, Prices::Any, lots);
 }
 
+// The lots that both sides of a level can trade.
+fn lesser(table: &Table, kind: Kind) -> u32
+    ensures { λ r. ⌜ r ≡ lesser-of kind (open-orders (now (table .entry))) ⌝ }
+{
+    let bids = lots_at(table, Side::Bid, kind);
+    bids.min(lots_at(table, Side::Offer, kind))
+}
+
 // The bids and the offers of one level trade at the price, as many lots as the lesser side holds.
 fn cross<P: Policy>(table: &mut Table, tape: &mut Tape, policy: &P, price: u32, kind: Kind)
-    requires { ⌜ length (tape-lines (now tape)) + (length (level Bid kind (open-orders (now table))) + length (level Offer kind (open-orders (now table)))) ≤ 512 ⌝ }
+    requires { ⌜ length (tape-lines (now tape)) ≤ 256 ⌝ }
     ensures exact { λ _. ⌜ step-of (now (table .exit)) (now (tape .exit)) ≡ crossed (P·Policy .rule (now (policy .entry))) price kind (step-of (now (table .entry)) (now (tape .entry))) ⌝ }
     ensures lines { λ _. ⌜ length (tape-lines (now (tape .exit))) ≤ length (tape-lines (now (tape .entry))) + (length (level Bid kind (open-orders (now (table .entry)))) + length (level Offer kind (open-orders (now (table .entry))))) ⌝ }
 {
-    let bids = lots_at(table, Side::Bid, kind);
-    let lots = bids.min(lots_at(table, Side::Offer, kind));
+    let lots = lesser(table, kind);
     trade_level(table, tape, policy, price, Side::Bid, kind, lots);
     trade_level(table, tape, policy, price, Side::Offer, kind, lots);
 }

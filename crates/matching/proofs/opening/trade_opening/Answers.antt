@@ -1,18 +1,10 @@
 use mathlib.Core.Path.{_≡_}
 use mathlib.Core.List.{[]}
-use native.Mathlib.Omega.{arith}
-use Rattle.rules.specs.declared.order.Kind.the-variants.{Limit}
 use Rattle.rules.specs.Opening.{turned}
 use Rattle.table.specs.Tables.{open-orders, tape-lines}
-use Rattle.table.proofs.Fit.{table-book}
 use Rattle.matching.specs.Steps.{step-of}
-use Rattle.matching.proofs.Stages.{both-levels, three-stages}
+use Rattle.matching.proofs.Stages.{three-stages}
 use Rattle.matching.proofs.opening.trade_opening.Needs as need
-
-pub cross-requires-2 : need.cross-requires-2
-cross-requires-2 g c κs =
-    let t = c .change .last .self in
-    omega (arith, c .cross .ensures .lines, c .trade-limits .ensures .lines, both-levels (Limit (c .args .price)) (open-orders t), table-book t .few)
 
 pub returns : need.returns
 returns g c =

@@ -7,7 +7,7 @@ ghost use lib.ListN.{length};
 ghost use Rattle.rules.specs.Sides.{is};
 ghost use Rattle.rules.specs.Orders.{level};
 ghost use Rattle.rules.specs.Trades.{lined};
-ghost use Rattle.rules.specs.Opening.{stage-one, lesser as lesser-of, cross as crossed, stages, opened};
+ghost use Rattle.rules.specs.Opening.{stage-one, lesser as lesser-of, cross as crossed, turned, stages, opened};
 ghost use Rattle.rules.specs.declared.order.Side.the-variants.{Bid, Offer};
 ghost use Rattle.rules.specs.declared.order.Kind.the-variants.{OnOpen};
 ghost use Rattle.table.specs.Fits.{price-fits};
@@ -61,6 +61,17 @@ fn cross<P: Policy>(table: &mut Table, tape: &mut Tape, policy: &P, price: u32, 
     trade_level(table, tape, policy, price, Side::Offer, kind, lots);
 }
 
+// Stage two: the On-Open orders trade with each other, and what is left of them becomes limit orders at the price.
+fn trade_on_open<P: Policy>(table: &mut Table, tape: &mut Tape, policy: &P, price: u32)
+    requires within { ⌜ price-fits price ≡ true ⌝ }
+    requires room { ⌜ length (tape-lines (now tape)) ≤ 256 ⌝ }
+    ensures exact { λ _. ⌜ step-of (now (table .exit)) (now (tape .exit)) ≡ turned price (crossed (P·Policy .rule (now (policy .entry))) price OnOpen (step-of (now (table .entry)) (now (tape .entry)))) ⌝ }
+    ensures lines { λ _. ⌜ length (tape-lines (now (tape .exit))) ≤ length (tape-lines (now (tape .entry))) + (length (level Bid OnOpen (open-orders (now (table .entry)))) + length (level Offer OnOpen (open-orders (now (table .entry))))) ⌝ }
+{
+    cross(table, tape, policy, price, Kind::OnOpen);
+    table.change(Change::Turn(price));
+}
+
 // The three stages: limit orders with each other; On-Open orders with each other; and what is left of the On-Open
 // orders, as limit orders at the price, with the limit orders there.
 fn trade_opening<P: Policy>(table: &mut Table, tape: &mut Tape, policy: &P, lots: u32, price: u32)
@@ -69,8 +80,7 @@ fn trade_opening<P: Policy>(table: &mut Table, tape: &mut Tape, policy: &P, lots
     ensures { λ _. ⌜ step-of (now (table .exit)) (now (tape .exit)) ≡ stages (P·Policy .rule (now (policy .entry))) price lots (open-orders (now (table .entry))) ⌝ }
 {
     trade_limits(table, tape, policy, lots, price);
-    cross(table, tape, policy, price, Kind::OnOpen);
-    table.change(Change::Turn(price));
+    trade_on_open(table, tape, policy, price);
     cross(table, tape, policy, price, Kind::Limit(price));
 }
 

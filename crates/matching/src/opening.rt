@@ -1,13 +1,16 @@
 // The opening of a book: its three stages, or the withdrawal of its On-Open orders.
 ghost use mathlib.Core.Path.{_≡_};
-ghost use mathlib.Core.Bool.{true, cond};
+ghost use mathlib.Core.Bool.{true, cond, not};
 ghost use mathlib.Core.List.{[]};
 ghost use Prim.Native.Nat.{_+_, _≤_, _<_, _^_};
 ghost use lib.ListN.{length};
+ghost use Rattle.std.specs.shelf.Lists.{kept-by};
 ghost use Rattle.rules.specs.Sides.{is};
-ghost use Rattle.rules.specs.Orders.{level};
+ghost use Rattle.rules.specs.Orders.{level, on-open};
+ghost use Rattle.rules.specs.Price.{volume as volume-of, price-at};
+ghost use Rattle.rules.specs.Steps.{pair-of};
 ghost use Rattle.rules.specs.Trades.{lined};
-ghost use Rattle.rules.specs.Opening.{stage-one, lesser as lesser-of, cross as crossed, turned, stages, opened};
+ghost use Rattle.rules.specs.Opening.{stage-one, lesser as lesser-of, cross as crossed, turned, stages, opened-at, opened};
 ghost use Rattle.rules.specs.declared.order.Side.the-variants.{Bid, Offer};
 ghost use Rattle.rules.specs.declared.order.Kind.the-variants.{OnOpen};
 ghost use Rattle.table.specs.Fits.{price-fits};
@@ -107,7 +110,52 @@ fn bought(tape: &Tape) -> u32
     sum
 }
 
-// Opens a book: with a price its orders trade, without one its On-Open orders are withdrawn.
+// Withdraws the On-Open orders, and answers their lots, of bids and of offers.
+fn withdraw_on_open(table: &mut Table) -> (u32, u32)
+    ensures orders { λ _. ⌜ open-orders (now (table .exit)) ≡ kept-by (λ o. not (on-open o)) (open-orders (now (table .entry))) ⌝ }
+    ensures lots { λ r. ⌜ r ≡ pair-of on-open (open-orders (now (table .entry))) ⌝ }
+{
+    table.withdraw(Leaving::OnOpen)
+}
+
+// Opens a book of the volume: with a price its orders trade, without one its On-Open orders are withdrawn.
+fn open_at<P: Policy>(
+    table: &mut Table,
+    tape: &mut Tape,
+    policy: &P,
+    lots: u32,
+    price: Option<u32>,
+) -> OpeningAnswer
+    requires empty { ⌜ tape-lines (now tape) ≡ [] ⌝ }
+    requires volume { ⌜ lots ≡ volume-of (open-orders (now table)) ⌝ }
+    requires price { ⌜ price ≡ price-at lots (open-orders (now table)) ⌝ }
+    ensures orders { λ _. ⌜ open-orders (now (table .exit)) ≡ opened-at (P·Policy .rule (now (policy .entry))) (open-orders (now (table .entry))) lots price .orders ⌝ }
+    ensures written { λ _. ⌜ tape-lines (now (tape .exit)) ≡ opened-at (P·Policy .rule (now (policy .entry))) (open-orders (now (table .entry))) lots price .tape ⌝ }
+    ensures answer { λ r. ⌜ r ≡ answer-of (opened-at (P·Policy .rule (now (policy .entry))) (open-orders (now (table .entry))) lots price) ⌝ }
+{
+    match price {
+        Some(p) => {
+            trade_opening(table, tape, policy, lots, p);
+            OpeningAnswer {
+                volume: lots,
+                total: bought(tape),
+                withdrawn: 0,
+                price,
+            }
+        }
+        None => {
+            let (bids, offers) = withdraw_on_open(table);
+            OpeningAnswer {
+                volume: lots,
+                total: 0,
+                withdrawn: bids + offers,
+                price,
+            }
+        }
+    }
+}
+
+// Opens a book.
 pub fn open_orders<P: Policy>(table: &mut Table, tape: &mut Tape, policy: &P) -> OpeningAnswer
     ensures orders { λ _. ⌜ open-orders (now (table .exit)) ≡ opened (P·Policy .rule (now (policy .entry))) (open-orders (now (table .entry))) .orders ⌝ }
     ensures written { λ _. ⌜ tape-lines (now (tape .exit)) ≡ opened (P·Policy .rule (now (policy .entry))) (open-orders (now (table .entry))) .tape ⌝ }
@@ -115,24 +163,6 @@ pub fn open_orders<P: Policy>(table: &mut Table, tape: &mut Tape, policy: &P) ->
 {
     tape.clear();
     let lots = volume(table);
-    match price(table, lots) {
-        Some(p) => {
-            trade_opening(table, tape, policy, lots, p);
-            OpeningAnswer {
-                volume: lots,
-                total: bought(tape),
-                withdrawn: 0,
-                price: Some(p),
-            }
-        }
-        None => {
-            let (bids, offers) = table.withdraw(Leaving::OnOpen);
-            OpeningAnswer {
-                volume: lots,
-                total: 0,
-                withdrawn: bids + offers,
-                price: None,
-            }
-        }
-    }
+    let found = price(table, lots);
+    open_at(table, tape, policy, lots, found)
 }

@@ -1,6 +1,6 @@
 -- The steps of the loops over the open orders.
 use mathlib.Core.Path.{_≡_, refl, sym, ap, _∙_}
-use mathlib.Core.Bool.{Bool, true, false, cond, _&&_}
+use mathlib.Core.Bool.{Bool, true, cond}
 use mathlib.Core.List.{List, [], _∷_}
 use Prim.Native.Nat.{ℕ, _+_, _≤_, _<_, max, min}
 use native.Mathlib.Omega.{arith}
@@ -19,7 +19,7 @@ use Rattle.rules.specs.Sides.{is}
 use Rattle.std.specs.declared.option.Option.the-variants.{Some, None}
 use Rattle.rules.specs.Orders.{price-of, prices, limit-of}
 use Rattle.rules.specs.Price.{most-of, highest, lowest}
-use Rattle.matching.specs.Ends.{start-of, further, furthest-from, furthest}
+use Rattle.matching.specs.Ends.{start-of, furthest-from, furthest}
 use Rattle.matching.specs.declared.pricing.End.{End}
 use Rattle.matching.specs.declared.pricing.End.the-variants.{Highest, Lowest}
 

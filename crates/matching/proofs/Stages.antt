@@ -23,8 +23,7 @@ use Rattle.rules.specs.Sides.{is, as-good-as}
 use Rattle.rules.specs.Price.{volume, price, price-at}
 use Rattle.rules.specs.Orders.{held, priced, prices, same, at, on-open, level, Book}
 use Rattle.rules.specs.Trades.{Step, fill, serve, ranked, levels, lined}
-use Rattle.rules.specs.Opening.{stage-one, lesser, cross, turned, stages, Opened, opened-at, opened}
-use Rattle.rules.specs.Laws.{In}
+use Rattle.rules.specs.Opening.{stage-one, lesser, cross, stages, Opened, opened-at, opened}
 use Rattle.rules.proofs.Held.{lots-at, held-fits}
 use Rattle.rules.proofs.Prices.{clears}
 use Rattle.rules.proofs.Openings.{opening-keeps}
@@ -137,12 +136,6 @@ cross-lines rule fair p k m b =
       fill-lines rule fair Offer v n (fill-book rule fair (Opening p) Bid v k m b) p k,
       level-after rule (Opening p) Bid Offer v k m,
     )
-
--- ---- the three stages in a row
-
-pub three-stages : (rule : Rule) (p v : ℕ) (os : List Order) (m one two half three : Step) → m ≡ record { orders = os; tape = [] } → one ≡ stage-one rule p v m → two ≡ cross rule p OnOpen one → half ≡ turned p two → three ≡ cross rule p (Limit p) half → three ≡ stages rule p v os
-three-stages rule p v os m one two half three e0 e1 e2 e3 e4 =
-    e4 ∙ ap (cross rule p (Limit p)) (e3 ∙ ap (turned p) (e2 ∙ ap (cross rule p OnOpen) (e1 ∙ ap (stage-one rule p v) e0)))
 
 -- ---- the opening at a volume and a price that are found
 

@@ -12,23 +12,22 @@ use Rattle.std.proofs.shelf.Tests.{cases-lt, cases-eq, cond-both, cond-true, co
 use Rattle.std.specs.declared.option.Option.the-variants.{Some, None}
 use Rattle.policy.specs.Fair.{Rule, Fairly}
 use Rattle.rules.specs.declared.order.Side.{Side}
-use Rattle.rules.specs.declared.order.Side.the-variants.{Bid, Offer}
 use Rattle.rules.specs.declared.order.Kind.{Kind}
 use Rattle.rules.specs.declared.order.Kind.the-variants.{Limit}
 use Rattle.rules.specs.declared.order.Order.{Order}
 use Rattle.rules.specs.declared.tape.Terms.{Terms}
 use Rattle.rules.specs.declared.tape.Terms.the-variants.{Opening, Entry}
 use Rattle.rules.specs.Sides.{is}
-use Rattle.rules.specs.Orders.{held, priced, limits, prices, at, level, queue, Sound, Book}
+use Rattle.rules.specs.Orders.{held, priced, limits, prices, at, level, Sound, Book}
 use Rattle.rules.specs.Trades.{Step, fill, serve, ranked}
 use Rattle.rules.specs.Laws.{In}
 use Rattle.rules.proofs.Held.{lots-at}
-use Rattle.rules.proofs.Filled.{is-self, fill-book, fill-kind}
-use Rattle.rules.proofs.Served.{at-level, limits-none, serve-none, Sorted}
+use Rattle.rules.proofs.Filled.{fill-book, fill-kind}
+use Rattle.rules.proofs.Served.{at-level, limits-none, own-test, Sorted, serve-none}
 use Rattle.matching.specs.Steps.{lines-for}
 use Rattle.matching.specs.Best.{first-of, next-of}
 use Rattle.matching.proofs.Ranks.{first-some, first-none, once, ranked-in, in-ranked, ranked-sorted, ranked-is}
-use Rattle.matching.proofs.Counts.{many-level, many-held, turn-lines, turn-orders, level-within}
+use Rattle.matching.proofs.Counts.{turn-lines, turn-orders, level-within}
 
 -- The levels at the prices of a book that pass, best first.
 abbrev pub passing : Side → (ℕ → Bool) → List Order → List Kind
@@ -81,10 +80,6 @@ for-more (Entry number) a b h = omega arith
 for-both : (terms : Terms) (a b c : ℕ) → a + b ≤ c → lines-for terms a + lines-for terms b ≤ lines-for terms c
 for-both (Opening p) a b c h = h
 for-both (Entry number) a b c h = omega arith
-
-own-test : (s : Side) (b : Bool) → (is s s && b) ≡ b
-own-test Bid b = refl
-own-test Offer b = refl
 
 -- ---- one level on
 

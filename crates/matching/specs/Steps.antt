@@ -1,8 +1,5 @@
 -- A table and its tape as the plain machine has them.
-use mathlib.Core.List.{List, [], _∷_}
 use Prim.Native.Nat.{ℕ, _*_}
-use Rattle.std.specs.declared.option.Option.{Option}
-use Rattle.std.specs.declared.option.Option.the-variants.{Some, None}
 use Rattle.rules.specs.declared.tape.Terms.{Terms}
 use Rattle.rules.specs.declared.tape.Terms.the-variants.{Opening, Entry}
 use Rattle.rules.specs.Trades.{Step}

@@ -1,9 +1,9 @@
 // Trading with one level.
 ghost use mathlib.Core.Path.{_≡_};
-ghost use mathlib.Core.Bool.{cond};
+ghost use mathlib.Core.Bool.{true, cond};
 ghost use Prim.Native.Nat.{_+_, _≤_, min};
 ghost use lib.ListN.{length};
-ghost use Rattle.policy.specs.Queue.{Queue};
+ghost use Rattle.policy.specs.Asked.{answered};
 ghost use Rattle.policy.specs.Fair.{total};
 ghost use Rattle.rules.specs.Orders.{at, level, held as held-by};
 ghost use Rattle.rules.specs.Trades.{shares as shares-of, fill};
@@ -37,7 +37,7 @@ pub fn lots_at(table: &Table, side: Side, kind: Kind) -> u32
 
 // Where a queue holds more than the lots that trade with it, each place gives what the policy shares; else all it holds.
 fn share_out<P: Policy>(policy: &P, queue: &[u32], held: u32, lots: u32, given: &mut [u32])
-    requires queue { ⌜ Queue (now queue) ⌝ }
+    requires answered { ⌜ answered (now queue) (length (now given)) ≡ true ⌝ }
     requires held { ⌜ held ≡ total (now queue) ⌝ }
     requires all { ⌜ now given ≡ now queue ⌝ }
     ensures { λ _. ⌜ now (given .exit) ≡ shares-of (P·Policy .rule (now (policy .entry))) (now (queue .entry)) lots ⌝ }

@@ -8,7 +8,7 @@ ghost use Rattle.std.specs.shelf.Lists.{kept-by};
 ghost use Rattle.std.specs.declared.option.Option.the-variants.{Some, None};
 ghost use Rattle.rules.specs.Sides.{midpoint};
 ghost use Rattle.rules.specs.Orders.{prices};
-ghost use Rattle.rules.specs.Price.{most-of, tradable, volume as volume-of, price-at, untraded, highest, lowest};
+ghost use Rattle.rules.specs.Price.{most-of, tradable as tradable-of, volume as volume-of, price-at, untraded, highest, lowest};
 ghost use Rattle.rules.specs.declared.order.Side.the-variants.{Bid, Offer};
 ghost use Rattle.table.specs.Tables.{open-orders};
 ghost use Rattle.matching.specs.Ends.{looked-at, start-of, further, furthest-from, furthest};
@@ -92,15 +92,20 @@ fn middle(a: u32, b: u32) -> u32
     ((a as u64 + b as u64) / 2) as u32
 }
 
+// The lots of limit orders that could trade with each other at q.
+fn tradable(table: &Table, q: u32) -> u32
+    ensures { λ r. ⌜ r ≡ tradable-of (open-orders (now (table .entry))) q ⌝ }
+{
+    let bids = table.lots(Side::Bid, Prices::AsGoodAs(q));
+    bids.min(table.lots(Side::Offer, Prices::AsGoodAs(q)))
+}
+
 // The lots that could trade at the price of a limit bid; of another order none.
 fn tradable_at(table: &Table, o: Order) -> u32
-    ensures { λ r. ⌜ r ≡ most-of (tradable (open-orders (now (table .entry)))) (prices Bid (o ∷ [])) ⌝ }
+    ensures { λ r. ⌜ r ≡ most-of (tradable-of (open-orders (now (table .entry)))) (prices Bid (o ∷ [])) ⌝ }
 {
     match o.limit(Side::Bid) {
-        Some(q) => {
-            let bid = table.lots(Side::Bid, Prices::AsGoodAs(q));
-            bid.min(table.lots(Side::Offer, Prices::AsGoodAs(q)))
-        }
+        Some(q) => tradable(table, q),
         None => 0,
     }
 }

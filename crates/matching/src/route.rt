@@ -1,11 +1,12 @@
 // Trading with the levels of a side in turn, the best price first.
 ghost use mathlib.Core.Path.{_≡_};
-ghost use mathlib.Core.List.{[], _∷_, map};
-ghost use Prim.Native.Nat.{_+_, _-_, _≤_, min};
+ghost use mathlib.Core.List.{[], _∷_, _++_, map};
+ghost use Prim.Native.Nat.{_+_, _-_, _≤_, _<_, min};
 ghost use lib.ListN.{length};
 ghost use Rattle.std.specs.shelf.Lists.{kept-by};
 ghost use Rattle.rules.specs.Orders.{at, level, held as held-by, limits, prices as prices-of};
-ghost use Rattle.rules.specs.Trades.{fill, serve, ranked};
+ghost use Rattle.rules.specs.Trades.{line, fill, serve, ranked};
+ghost use Rattle.rules.specs.Sides.{other};
 ghost use Rattle.rules.specs.declared.order.Kind.the-variants.{Limit};
 ghost use Rattle.table.specs.Tables.{open-orders, tape-lines};
 ghost use Rattle.table.specs.Choices.{among};
@@ -62,6 +63,14 @@ fn next_price(table: &Table, side: Side, prices: Prices, left: u32) -> Option<u3
     best(table, side, prices)
 }
 
+// Writes the own line of an entry that traded with the side at x.
+fn note_entry(tape: &mut Tape, number: u32, side: Side, x: u32, lots: u32)
+    requires { ⌜ length (tape-lines (now tape)) < 512 ⌝ }
+    ensures { λ _. ⌜ tape-lines (now (tape .exit)) ≡ tape-lines (now (tape .entry)) ++ line number (other side) x lots ⌝ }
+{
+    tape.note(number, side.other(), x, lots);
+}
+
 // Trades up to `lots` with the level at x, and answers the lots traded. An entry's own line stands behind the level's.
 fn meet_level<P: Policy>(
     table: &mut Table,
@@ -89,7 +98,7 @@ fn meet_level<P: Policy>(
         ),
         Terms::Entry(number) => {
             let traded = trade_level(table, tape, policy, x, side, Kind::Limit(x), lots);
-            tape.note(number, side.other(), x, traded);
+            note_entry(tape, number, side, x, traded);
             traded
         }
     }

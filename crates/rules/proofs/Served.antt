@@ -48,7 +48,7 @@ pub limits-none : (s : Side) (t : ℕ → Bool) (os : List Order) → ((x : ℕ)
 limits-none s t [] h = refl
 limits-none s t (o ∷ os) h = omega (arith, none-here s (o .side) (o .kind) t (o .lots) (λ x e. omega (arith, h x e)), limits-none s t os (λ x e. omega (arith, h x e)))
 
-own-test : (s : Side) (b : Bool) → (is s s && b) ≡ b
+pub own-test : (s : Side) (b : Bool) → (is s s && b) ≡ b
 own-test Bid b = refl
 own-test Offer b = refl
 

@@ -6,6 +6,7 @@ use lib.ListN.{length, take}
 use Rattle.std.proofs.shelf.Elements.{length-each}
 use Rattle.policy.specs.Queue.{Queue}
 use Rattle.policy.specs.Fair.{Within, total}
+use Rattle.policy.proofs.Queues.{queue-answered}
 use Rattle.rules.specs.Orders.{level, queue}
 use Rattle.rules.specs.Trades.{shares, taken, standing, lines}
 use Rattle.rules.proofs.Shared.{shares-fair}
@@ -23,8 +24,9 @@ share-out-requires g c κs =
     let t = c .args .table .now in
     let q = queue (c .args .side) (c .args .kind) (open-orders t) in
     let is = gathered (c .gather-places .result) (c .gather-places .last .queue) q (c .gather-places .ensures .front) in
+    let part = take (c .gather-places .result - 0) (c .gather-places .last .queue) in
     record {
-      queue = subst Queue (sym is) (table-queue t (c .args .side) (c .args .kind));
+      answered = queue-answered part (length part) refl (subst Queue (sym is) (table-queue t (c .args .side) (c .args .kind)));
       held = c .lots-at-held .ensures ∙ (sym (queue-total (c .args .side) (c .args .kind) (open-orders t)) ∙ ap total (sym is));
       all = refl;
     }

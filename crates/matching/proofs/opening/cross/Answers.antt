@@ -1,32 +1,39 @@
-use mathlib.Core.Path.{_≡_, sym, ap, _∙_}
-use Prim.Native.Nat.{ℕ, min}
+use mathlib.Core.Path.{_≡_, ap, _∙_}
+use Prim.Native.Nat.{ℕ}
 use native.Mathlib.Omega.{arith}
 use lib.ListN.{length}
 use Rattle.policy.specs.Fair.{Rule}
 use Rattle.rules.specs.declared.order.Side.the-variants.{Bid, Offer}
 use Rattle.rules.specs.declared.order.Kind.{Kind}
 use Rattle.rules.specs.declared.tape.Terms.the-variants.{Opening}
-use Rattle.rules.specs.Orders.{held, at, level}
+use Rattle.rules.specs.Orders.{level}
 use Rattle.rules.specs.Trades.{Step, fill}
 use Rattle.rules.specs.Opening.{lesser, cross}
 use Rattle.table.specs.Tables.{open-orders}
 use Rattle.table.proofs.Fit.{table-book}
 use Rattle.matching.specs.Steps.{step-of}
 use Rattle.matching.proofs.Counts.{fill-lines}
-use Rattle.matching.proofs.Stages.{level-after, cross-lines}
+use Rattle.matching.proofs.Stages.{both-levels, level-after, cross-lines}
 use Rattle.matching.proofs.opening.cross.Needs as need
+
+pub trade-level-requires : need.trade-level-requires
+trade-level-requires g c κs =
+    let t = c .args .table .now in
+    omega (arith, c .pre, both-levels (c .args .kind) (open-orders t), table-book t .few)
 
 pub trade-level-requires-2 : need.trade-level-requires-2
 trade-level-requires-2 g c κs =
     let m = step-of (c .args .table .now) (c .args .tape .now) in
     let rule = g .P·Policy .rule (c .args .policy .now) in
     let fair = g .P·Policy·met .fair (c .args .policy .now) in
-    let v = c .min-lots .result in
+    let v = c .lesser-lots .result in
     let k = c .args .kind in
     let e = c .trade-level .ensures .exact in
     omega (
       arith,
       c .pre,
+      both-levels k (m .orders),
+      table-book (c .args .table .now) .few,
       ap (λ (z : Step). length (z .tape)) e,
       ap (λ (z : Step). length (level Offer k (z .orders))) e,
       fill-lines rule fair Bid v m (table-book (c .args .table .now)) (c .args .price) k,
@@ -43,8 +50,7 @@ returns g c =
     let rule = g .P·Policy .rule (c .args .policy .now) in
     let fair = g .P·Policy·met .fair (c .args .policy .now) in
     let k = c .args .kind in
-    let is : c .min-lots .result ≡ lesser k (m .orders) = omega (arith, c .min-lots .ensures, c .lots-at-bids .ensures, c .lots-at .ensures) in
-    let exact = both rule (c .args .price) (c .min-lots .result) k m (step-of (c .trade-level .last .table) (c .trade-level .last .tape)) (step-of (c .trade-level-2 .last .table) (c .trade-level-2 .last .tape)) is (c .trade-level .ensures .exact) (c .trade-level-2 .ensures .exact) in
+    let exact = both rule (c .args .price) (c .lesser-lots .result) k m (step-of (c .trade-level .last .table) (c .trade-level .last .tape)) (step-of (c .trade-level-2 .last .table) (c .trade-level-2 .last .tape)) (c .lesser-lots .ensures) (c .trade-level .ensures .exact) (c .trade-level-2 .ensures .exact) in
     record {
       exact = exact;
       lines = omega (arith, ap (λ (z : Step). length (z .tape)) exact, cross-lines rule fair (c .args .price) k m (table-book (c .args .table .now)));

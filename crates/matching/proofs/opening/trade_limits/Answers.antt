@@ -1,10 +1,10 @@
-use mathlib.Core.Path.{_≡_, ap}
-use Prim.Native.Nat.{ℕ, _≤_}
+use mathlib.Core.Path.{ap}
+use Prim.Native.Nat.{_≤_}
 use native.Mathlib.Omega.{arith}
 use lib.ListN.{length}
-use Rattle.rules.specs.declared.order.Side.the-variants.{Bid, Offer}
+use Rattle.rules.specs.declared.order.Side.the-variants.{Bid}
 use Rattle.rules.specs.Orders.{prices}
-use Rattle.table.specs.Tables.{open-orders, tape-lines}
+use Rattle.table.specs.Tables.{open-orders}
 use Rattle.table.proofs.Fit.{table-book}
 use Rattle.matching.specs.Steps.{step-of}
 use Rattle.matching.proofs.Stages.{all-orders, bids-few, two-walks, one-lines}

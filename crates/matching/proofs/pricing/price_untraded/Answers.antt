@@ -1,9 +1,7 @@
 use mathlib.Core.Path.{_≡_, ap, _∙_}
 use mathlib.Core.Bool.{true}
-use Prim.Native.Nat.{ℕ, _<_}
 use native.Mathlib.Omega.{arith}
 use lib.Dec.{ltb}
-use borrow.Author.Needs.{needs}
 use Rattle.std.proofs.shelf.Tests.{lt-ltb}
 use Rattle.rules.specs.declared.order.Side.the-variants.{Bid, Offer}
 use Rattle.rules.specs.Orders.{prices}

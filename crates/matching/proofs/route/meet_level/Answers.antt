@@ -1,6 +1,6 @@
-use mathlib.Core.Path.{_≡_, sym, ap, subst, _∙_}
+use mathlib.Core.Path.{_≡_, sym, ap, _∙_}
 use mathlib.Core.List.{List, _++_}
-use Prim.Native.Nat.{ℕ, _<_, min}
+use Prim.Native.Nat.{ℕ, min}
 use native.Mathlib.Omega.{arith}
 use lib.ListN.{length}
 use Rattle.std.proofs.shelf.Lists.{append-assoc}
@@ -21,13 +21,13 @@ use Rattle.matching.proofs.Counts.{fill-lines}
 use Rattle.matching.proofs.route.meet_level.Needs as need
 
 -- The level's lines at its own price, and the entry's behind them.
-entry-turn : (rule : Rule) (s s′ : Side) (v x number r : ℕ) (m : Step) (os : List Order) (before after : List TapeLine) → record { orders = os; tape = before } ≡ fill rule (Opening x) s v (Limit x) m → r ≡ min v (held (at s (Limit x)) (m .orders)) → s′ ≡ other s → after ≡ before ++ line number s′ x r → record { orders = os; tape = after } ≡ fill rule (Entry number) s v (Limit x) m
-entry-turn rule s s′ v x number r m os before after e traded far noted =
+entry-turn : (rule : Rule) (s : Side) (v x number r : ℕ) (m : Step) (os : List Order) (before after : List TapeLine) → record { orders = os; tape = before } ≡ fill rule (Opening x) s v (Limit x) m → r ≡ min v (held (at s (Limit x)) (m .orders)) → after ≡ before ++ line number (other s) x r → record { orders = os; tape = after } ≡ fill rule (Entry number) s v (Limit x) m
+entry-turn rule s v x number r m os before after e traded noted =
     let n : ℕ = min v (held (at s (Limit x)) (m .orders)) in
     let resting : List TapeLine = lines x (level s (Limit x) (m .orders)) (shares rule (queue s (Limit x) (m .orders)) v) in
     let a : os ≡ fill rule (Entry number) s v (Limit x) m .orders = ap (λ (k : Step). k .orders) e in
-    let own : line number s′ x r ≡ line number (other s) x n = ap (λ (z : Side). line number z x r) far ∙ ap (λ (z : ℕ). line number (other s) x z) traded in
-    let b : after ≡ m .tape ++ (resting ++ line number (other s) x n) = noted ∙ (ap (λ (l : List TapeLine). l ++ line number s′ x r) (ap (λ (k : Step). k .tape) e) ∙ (ap (λ (l : List TapeLine). (m .tape ++ resting) ++ l) own ∙ append-assoc (m .tape) resting (line number (other s) x n))) in
+    let own : line number (other s) x r ≡ line number (other s) x n = ap (λ (z : ℕ). line number (other s) x z) traded in
+    let b : after ≡ m .tape ++ (resting ++ line number (other s) x n) = noted ∙ (ap (λ (l : List TapeLine). l ++ line number (other s) x r) (ap (λ (k : Step). k .tape) e) ∙ (ap (λ (l : List TapeLine). (m .tape ++ resting) ++ l) own ∙ append-assoc (m .tape) resting (line number (other s) x n))) in
     λ i. record { orders = a i; tape = b i }
 
 pub trade-level-requires : need.trade-level-requires
@@ -40,8 +40,8 @@ trade-level-traded-requires g c κs =
     let n = length (level (c .args .side) (Limit (c .args .x)) (open-orders (c .args .table .now))) in
     omega (arith, c .pre .room, ap (λ (t : Terms). lines-for t n) (c .in-Entry .is))
 
-pub note-requires : need.note-requires
-note-requires g c κs =
+pub note-entry-requires : need.note-entry-requires
+note-entry-requires g c κs =
     let m = step-of (c .args .table .now) (c .args .tape .now) in
     let k = Limit (c .args .x) in
     let n = length (level (c .args .side) k (m .orders)) in
@@ -63,7 +63,7 @@ returns-in-Entry g c =
     let m = step-of (c .args .table .now) (c .args .tape .now) in
     let rule = g .P·Policy .rule (c .args .policy .now) in
     let table = c .trade-level-traded .last .table in
-    let e = entry-turn rule (c .args .side) (c .other .result) (c .args .lots) (c .args .x) (c .in-Entry .number) (c .trade-level-traded .result) m (open-orders table) (tape-lines (c .trade-level-traded .last .tape)) (tape-lines (c .note .last .self)) (c .trade-level-traded .ensures .exact) (c .trade-level-traded .ensures .traded) (c .other .ensures) (c .note .ensures) in
+    let e = entry-turn rule (c .args .side) (c .args .lots) (c .args .x) (c .in-Entry .number) (c .trade-level-traded .result) m (open-orders table) (tape-lines (c .trade-level-traded .last .tape)) (tape-lines (c .note-entry .last .tape)) (c .trade-level-traded .ensures .exact) (c .trade-level-traded .ensures .traded) (c .note-entry .ensures) in
     record {
       exact = e ∙ ap (λ (t : Terms). fill rule t (c .args .side) (c .args .lots) (Limit (c .args .x)) m) (sym (c .in-Entry .is));
       traded = c .trade-level-traded .ensures .traded;

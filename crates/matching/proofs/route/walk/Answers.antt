@@ -1,18 +1,18 @@
-use mathlib.Core.Path.{_≡_, sym, ap, subst, _∙_}
+use mathlib.Core.Path.{_≡_, sym, subst, _∙_}
 use mathlib.Core.Bool.{Bool}
-use Prim.Native.Nat.{ℕ, _-_, _≤_, _<_, min}
+use Prim.Native.Nat.{ℕ, _-_, _<_, min}
 use native.Mathlib.Omega.{arith}
 use lib.ListN.{length}
 use Rattle.std.specs.shelf.Lists.{kept-by}
 use Rattle.std.specs.declared.option.Option.the-variants.{Some}
 use Rattle.rules.specs.declared.order.Kind.the-variants.{Limit}
 use Rattle.rules.specs.Orders.{held, at, level, prices}
-use Rattle.rules.specs.Trades.{Step, fill, ranked}
+use Rattle.rules.specs.Trades.{Step, ranked}
 use Rattle.table.specs.Tables.{open-orders}
 use Rattle.table.specs.Choices.{among}
 use Rattle.table.proofs.Fit.{table-book}
-use Rattle.matching.specs.Best.{first-of, next-of}
-use Rattle.matching.specs.Steps.{step-of, lines-for}
+use Rattle.matching.specs.Best.{first-of}
+use Rattle.matching.specs.Steps.{step-of}
 use Rattle.matching.proofs.Counts.{level-within}
 use Rattle.matching.proofs.Walks.{Walked, walked-turn, walked-exact, walked-left, next-some, next-lots, next-orders, for-more}
 use Rattle.matching.proofs.route.walk.Needs as need

@@ -1,8 +1,7 @@
 // The calls of the book at hand.
 ghost use mathlib.Core.Path.{_≡_};
 ghost use Rattle.rules.specs.declared.calls.Answer.the-variants.{Entered, Cancelled, Reduced, Dropped, Done, Tried};
-ghost use Rattle.rules.specs.Steps.{step};
-ghost use Rattle.book.specs.Model.{waiting, rules-of, said};
+ghost use Rattle.book.specs.Model.{said};
 ghost use Rattle.optbook.specs.Desks.{Asked, Made, Sent};
 use super::Desk;
 use book::pre_open::PreOpen;

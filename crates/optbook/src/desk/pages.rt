@@ -1,8 +1,7 @@
 // What the book at hand holds.
-ghost use Rattle.std.specs.Vec.{made};
-ghost use Rattle.optbook.specs.Desks.{Paged};
 ghost use mathlib.Core.Path.{_≡_};
-ghost use Rattle.optbook.specs.Desks.{desk-orders};
+ghost use Rattle.std.specs.Vec.{made};
+ghost use Rattle.optbook.specs.Desks.{desk-orders, Paged};
 use super::Desk;
 use crate::page::Page;
 use policy::BasePolicy;

@@ -1,7 +1,6 @@
 use mathlib.Core.Path.{refl, ap}
 use mathlib.Core.Bool.{true}
 use mathlib.Core.List.{List, _++_}
-use Prim.Native.Nat.{ℕ}
 use Rattle.std.proofs.Writes.{put-more, put-is}
 use Rattle.rules.specs.declared.order.Order.{Order}
 use Rattle.optbook.specs.Pages.{orders-text, book-text, page-text}

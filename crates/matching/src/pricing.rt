@@ -12,6 +12,8 @@ ghost use Rattle.rules.specs.Price.{most-of, tradable as tradable-of, volume as
 ghost use Rattle.rules.specs.declared.order.Side.the-variants.{Bid, Offer};
 ghost use Rattle.table.specs.Tables.{open-orders};
 ghost use Rattle.matching.specs.Ends.{looked-at, start-of, further, furthest-from, furthest};
+use rules::limits::HIGHEST_PRICE;
+use rules::limits::LOWEST_PRICE;
 use rules::order::Order;
 use rules::order::Side;
 use table::table::Prices;
@@ -49,8 +51,8 @@ impl End {
         ensures { λ r. ⌜ r ≡ start-of self ⌝ }
     {
         match self {
-            End::Highest => 1,
-            End::Lowest => 4_000_000,
+            End::Highest => LOWEST_PRICE,
+            End::Lowest => HIGHEST_PRICE,
         }
     }
 
@@ -121,7 +123,8 @@ pub fn volume(table: &Table) -> u32
     most
 }
 
-// The price where both sides have lots left: the middle between the worst traded and the best untraded of each.
+// The price where both sides have lots left: the middle between the lower of the lowest traded bid and the lowest
+// untraded offer, and the higher of the highest traded offer and the highest untraded bid.
 fn price_between(table: &Table, v: u32, last_bid: u32, last_offer: u32) -> u32
     ensures { λ r. ⌜ r ≡ midpoint (min «last_bid» (lowest (untraded Offer v (open-orders (now (table .entry)))))) (max «last_offer» (highest (untraded Bid v (open-orders (now (table .entry)))))) ⌝ }
 {

@@ -15,7 +15,7 @@ use Rattle.rules.proofs.Volumes.{never-more, attained}
 use Rattle.rules.proofs.Prices.{clears}
 use Rattle.rules.proofs.Filled.{fill-account, fill-level, fill-trades}
 use Rattle.rules.proofs.Served.{at-level, serve-levels}
-use Rattle.rules.proofs.Openings.{upper-better, upper-good, one-left}
+use Rattle.rules.proofs.Openings.{upper-better, upper-good, one-left, opening-keeps}
 
 pub volume-is-largest : Volume-is-largest
 volume-is-largest os = record { attained = attained os; never-exceeded = never-more os }
@@ -46,6 +46,7 @@ price-lies-between rule fair os b p e =
     record {
       bids = λ x i. leb-true x p (one-left rule fair os b p k Bid x i);
       offers = λ x i. leb-true p x (one-left rule fair os b p k Offer x i);
+      one-sided = opening-keeps rule fair os b .one-sided p e;
     }
 
 pub steps-as-listed : Steps-as-listed

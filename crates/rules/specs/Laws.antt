@@ -10,7 +10,7 @@ use Rattle.policy.specs.Fair.{Rule, Fairly}
 use Rattle.rules.specs.declared.order.Side.{Side}
 use Rattle.rules.specs.declared.order.Side.the-variants.{Bid, Offer}
 use Rattle.rules.specs.declared.order.Kind.{Kind}
-use Rattle.rules.specs.declared.order.Kind.the-variants.{Limit}
+use Rattle.rules.specs.declared.order.Kind.the-variants.{Limit, OnOpen}
 use Rattle.rules.specs.declared.order.Order.{Order}
 use Rattle.rules.specs.declared.ladder.Ladder.the-variants.{Securities, Index, Bond}
 use Rattle.rules.specs.declared.tape.Terms.{Terms}
@@ -20,7 +20,7 @@ use Rattle.rules.specs.Sides.{is}
 use Rattle.rules.specs.Orders.{held, at, ahead, prices, Book}
 use Rattle.rules.specs.Price.{tradable, volume, price}
 use Rattle.rules.specs.Trades.{Step, fill, serve, levels, lined}
-use Rattle.rules.specs.Opening.{stage-one}
+use Rattle.rules.specs.Opening.{stage-one, lesser, cross}
 use Rattle.rules.specs.Ladders.{step-at}
 
 -- x is one of them.
@@ -52,10 +52,13 @@ Better-levels-first =
     (rule : Rule) → Fairly rule → (terms : Terms) (s : Side) (v : ℕ) (m : Step) → Book (m .orders) → (x : ℕ) →
     held (at s (Limit x)) (serve rule terms s v (levels s (m .orders)) m .orders) + min (held (at s (Limit x)) (m .orders)) (v - ahead s (m .orders) x) ≡ held (at s (Limit x)) (m .orders)
 
--- The opening price lies at or above every bid that stage one leaves over, and at or below every such offer.
+-- The opening price lies at or above every bid that stage one leaves over, and at or below every such offer. After stage
+-- two no limit bid at the price is left beside a limit offer at it, and no On-Open bid beside an On-Open offer, so all
+-- that trades in stage three trades with an order that was turned.
 pub record Between-left-overs (rule : Rule) (os : List Order) (p : ℕ) : Type 0 where
   pub bids : (x : ℕ) → In x (prices Bid (stage-one rule p (volume os) (record { orders = os; tape = [] }) .orders)) → x ≤ p
   pub offers : (x : ℕ) → In x (prices Offer (stage-one rule p (volume os) (record { orders = os; tape = [] }) .orders)) → p ≤ x
+  pub one-sided : (lesser (Limit p) (cross rule p OnOpen (stage-one rule p (volume os) (record { orders = os; tape = [] })) .orders) ≡ 0) × (lesser OnOpen (cross rule p OnOpen (stage-one rule p (volume os) (record { orders = os; tape = [] })) .orders) ≡ 0)
 
 abbrev pub Price-lies-between : Type 0
 Price-lies-between = (rule : Rule) → Fairly rule → (os : List Order) → Book os → (p : ℕ) → price os ≡ Some p → Between-left-overs rule os p

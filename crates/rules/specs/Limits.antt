@@ -14,9 +14,6 @@ most-lots = queue.most-lots
 abbrev pub most-orders : ℕ
 most-orders = 256
 
-abbrev pub most-tape-lines : ℕ
-most-tape-lines = 512
-
 abbrev pub most-ids : ℕ
 most-ids = 64
 

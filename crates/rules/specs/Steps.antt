@@ -119,7 +119,7 @@ reduce m id number lots = checked (reduce-checks m id number lots) m (outcome (R
 
 -- ---- lines
 
--- The lots of the orders that pass, as a pair of bids and offers.
+-- The lots of the orders that a test finds, as a pair of bids and offers.
 abbrev pub pair-of : (Order → Bool) → List Order → ℕ × ℕ
 pair-of t os = (held (λ o. is Bid (o .side) && t o) os, held (λ o. is Offer (o .side) && t o) os)
 

@@ -69,7 +69,7 @@ abbrev pub serve : Rule → Terms → Side → ℕ → List Kind → Step → St
 serve rule terms s v [] m = m
 serve rule terms s v (k ∷ ks) m = serve rule terms s (v - held (at s k) (m .orders)) ks (fill rule terms s v k m)
 
--- Prices in order, the better first, each once.
+-- Prices in order, the better first, each once: x goes in front of y where it is better than y.
 abbrev pub into : Side → ℕ → List ℕ → List ℕ
 into s x [] = x ∷ []
 into s x (y ∷ ys) = cond (better-than s y x) (x ∷ y ∷ ys) (cond (eqb x y) (y ∷ ys) (y ∷ into s x ys))

@@ -17,7 +17,8 @@ pub fn better_levels_first()
     ensures { λ _. ⌜ Better-levels-first ⌝ }
 {}
 
-// No bid that stage one leaves is above the opening price, and no offer below it.
+// No bid that stage one leaves is above the opening price, and no offer below it; and all that trades in stage three
+// trades with an order that was turned.
 pub fn price_lies_between()
     ensures { λ _. ⌜ Price-lies-between ⌝ }
 {}

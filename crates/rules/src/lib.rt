@@ -3,6 +3,7 @@ pub mod calls;
 pub mod incoming;
 pub mod ladder;
 pub mod laws;
+pub mod limits;
 pub mod line;
 pub mod order;
 pub mod refusal;

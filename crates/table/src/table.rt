@@ -12,9 +12,6 @@ mod edits;
 mod reads;
 mod trades;
 
-// The most orders that are open at a time.
-pub const PLACES: usize = 256;
-
 // The first `count` places hold the open orders, in the order of their entry; each has from 1 lot to the largest volume,
 // and a limit within the range of prices.
 #[derive(Drop)]

@@ -9,6 +9,7 @@ ghost use Rattle.rules.specs.Machine.{Machine};
 ghost use Rattle.rules.specs.declared.calls.Phase.the-variants.{PreOpen, Open};
 ghost use Rattle.book.specs.Model.{machine, verdict};
 use super::Held;
+use policy::MOST_LOTS;
 use rules::calls::Condition;
 use rules::calls::LimitEntry;
 use rules::calls::MarketEntry;
@@ -16,6 +17,9 @@ use rules::calls::OnOpenEntry;
 use rules::calls::Phase;
 use rules::calls::TimeInForce;
 use rules::calls::Trial;
+use rules::limits::LAST_NUMBER;
+use rules::limits::MOST_IDS;
+use rules::limits::MOST_ORDERS;
 use rules::order::Order;
 use rules::refusal::Refusal;
 
@@ -94,7 +98,7 @@ impl<O, S> Held<O, S> {
     pub(crate) fn check_id(&self, id: u8) -> Result<(), Refusal>
         ensures { λ r. ⌜ r ≡ verdict (first (id-checks (machine PreOpen (now (self .entry))) id [])) ⌝ }
     {
-        unless(outside(1, 64, id as u32), Refusal::NoSuchId)?;
+        unless(outside(1, MOST_IDS as u32, id as u32), Refusal::NoSuchId)?;
         unless(self.lines.of(id).is_down(), Refusal::LineIsDown)
     }
 
@@ -102,8 +106,8 @@ impl<O, S> Held<O, S> {
     fn check_room(&self) -> Result<(), Refusal>
         ensures { λ r. ⌜ r ≡ verdict (first (room-checks (machine PreOpen (now (self .entry))))) ⌝ }
     {
-        unless(self.table.len() >= 256, Refusal::BookFull)?;
-        unless(self.next > 4_294_967_294, Refusal::NumbersUsedUp)
+        unless(self.table.len() >= MOST_ORDERS, Refusal::BookFull)?;
+        unless(self.next > LAST_NUMBER, Refusal::NumbersUsedUp)
     }
 
     // 3 to 9 of a limit entry.
@@ -111,7 +115,7 @@ impl<O, S> Held<O, S> {
         ensures { λ r. ⌜ r ≡ verdict (first (limit-terms (machine phase (now (self .entry))) e)) ⌝ }
     {
         unless(!self.ladder.takes(e.price), Refusal::PriceNotTaken)?;
-        unless(outside(1, 9_999, e.lots), Refusal::VolumeOutOfRange)?;
+        unless(outside(1, MOST_LOTS, e.lots), Refusal::VolumeOutOfRange)?;
         unless(
             minimum_outside(e.condition, e.lots),
             Refusal::MinimumOutOfRange,
@@ -128,7 +132,7 @@ impl<O, S> Held<O, S> {
     pub(crate) fn check_on_open(&self, e: OnOpenEntry) -> Result<(), Refusal>
         ensures { λ r. ⌜ r ≡ verdict (first (on-open-terms (machine PreOpen (now (self .entry))) e)) ⌝ }
     {
-        unless(outside(1, 9_999, e.lots), Refusal::VolumeOutOfRange)?;
+        unless(outside(1, MOST_LOTS, e.lots), Refusal::VolumeOutOfRange)?;
         unless(!on_open_allowed(e.lifetime), Refusal::ModifierNotAllowed)?;
         unless(self.day_outside(e.lifetime), Refusal::DayOutOfRange)?;
         self.check_room()
@@ -138,7 +142,7 @@ impl<O, S> Held<O, S> {
     pub(crate) fn check_market(&self, e: MarketEntry) -> Result<(), Refusal>
         ensures { λ r. ⌜ r ≡ verdict (first (market-terms (machine Open (now (self .entry))) e)) ⌝ }
     {
-        unless(outside(1, 9_999, e.lots), Refusal::VolumeOutOfRange)?;
+        unless(outside(1, MOST_LOTS, e.lots), Refusal::VolumeOutOfRange)?;
         unless(
             minimum_outside(e.condition, e.lots),
             Refusal::MinimumOutOfRange,
@@ -147,21 +151,21 @@ impl<O, S> Held<O, S> {
             !market_allowed(e.lifetime, e.condition),
             Refusal::ModifierNotAllowed,
         )?;
-        unless(self.next > 4_294_967_294, Refusal::NumbersUsedUp)
+        unless(self.next > LAST_NUMBER, Refusal::NumbersUsedUp)
     }
 
     pub(crate) fn check_trial(&self, t: Trial) -> Result<(), Refusal>
         ensures { λ r. ⌜ r ≡ verdict (first (trial-checks (machine PreOpen (now (self .entry))) t)) ⌝ }
     {
         unless(!self.ladder.takes(t.price), Refusal::PriceNotTaken)?;
-        unless(outside(1, 9_999, t.lots), Refusal::VolumeOutOfRange)?;
-        unless(self.table.len() >= 256, Refusal::BookFull)
+        unless(outside(1, MOST_LOTS, t.lots), Refusal::VolumeOutOfRange)?;
+        unless(self.table.len() >= MOST_ORDERS, Refusal::BookFull)
     }
 
     pub(crate) fn check_line_up(&self, id: u8) -> Result<(), Refusal>
         ensures { λ r. ⌜ r ≡ verdict (first (line-up-checks (machine PreOpen (now (self .entry))) id)) ⌝ }
     {
-        unless(outside(1, 64, id as u32), Refusal::NoSuchId)?;
+        unless(outside(1, MOST_IDS as u32, id as u32), Refusal::NoSuchId)?;
         unless(!self.lines.of(id).is_down(), Refusal::LineIsUp)
     }
 }
@@ -197,9 +201,9 @@ pub(crate) fn open_lots(order: Option<Order>) -> u32
 pub(crate) fn check_successor(id: u8, successor: u8) -> Result<(), Refusal>
     ensures { λ r. ⌜ ((m : Machine) → r ≡ verdict (first (successor-checks m id successor))) ⌝ }
 {
-    unless(outside(1, 64, id as u32), Refusal::NoSuchId)?;
+    unless(outside(1, MOST_IDS as u32, id as u32), Refusal::NoSuchId)?;
     unless(
-        outside(1, 64, successor as u32) || successor == id,
+        outside(1, MOST_IDS as u32, successor as u32) || successor == id,
         Refusal::SuccessorNotAllowed,
     )
 }

@@ -15,6 +15,8 @@ use rules::calls::LimitEntry;
 use rules::calls::OnOpenEntry;
 use rules::calls::Phase;
 use rules::ladder::Ladder;
+use rules::limits::FIRST_DAY;
+use rules::limits::LAST_DAY;
 use rules::order::Kind;
 use rules::refusal::Refusal;
 use table::lines::Lines;
@@ -25,7 +27,7 @@ use table::tape::Tape;
 fn nearest_day(day: u16) -> u16
     ensures { λ r. ⌜ r ≡ nearest-day day ⌝ }
 {
-    day.min(65_534).max(1)
+    day.min(LAST_DAY).max(FIRST_DAY)
 }
 
 impl<O: Policy, S: Policy> Book<Waiting, O, S> {

@@ -4,6 +4,8 @@ ghost use lib.Dec.{leb};
 ghost use Rattle.rules.specs.Ladders.{same-ladder, step-among, takes};
 use super::Ladder;
 use super::Rung;
+use crate::limits::HIGHEST_PRICE;
+use crate::limits::LOWEST_PRICE;
 
 // The rungs of each ladder, from the lowest price up.
 const RUNGS: [Rung; 10] = [
@@ -99,7 +101,7 @@ impl Ladder {
     pub fn takes(self, price: u32) -> bool
         ensures { λ r. ⌜ r ≡ takes self price ⌝ }
     {
-        if price < 1 || price > 4_000_000 {
+        if price < LOWEST_PRICE || price > HIGHEST_PRICE {
             return false;
         }
         let step = self.step_among(price, &RUNGS);

@@ -18,7 +18,7 @@ impl Lines {
         }
     }
 
-    // The line of an ID; that of an ID that the book has not counts as up.
+    // The line of an ID. Behind the last line every line counts as up, and 0 reads the first; no call asks for either.
     pub fn of(&self, id: u8) -> Line
         ensures { λ r. ⌜ r ≡ line-of id (line-list (now (self .entry))) ⌝ }
     {

@@ -1,0 +1,19 @@
+// The ranges and capacities of a book, each in one place. The largest volume is that of a queue's place,
+// `policy::MOST_LOTS`.
+pub const LOWEST_PRICE: u32 = 1;
+
+pub const HIGHEST_PRICE: u32 = 4_000_000;
+
+// The most orders that are open at a time, and the most lines of a tape.
+pub const MOST_ORDERS: usize = 256;
+
+pub const MOST_TAPE_LINES: usize = 512;
+
+// Trading IDs run from 1.
+pub const MOST_IDS: u8 = 64;
+
+pub const LAST_NUMBER: u32 = 4_294_967_294;
+
+pub const FIRST_DAY: u16 = 1;
+
+pub const LAST_DAY: u16 = 65_534;

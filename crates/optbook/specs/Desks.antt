@@ -33,6 +33,7 @@ pub record Asked {O S : Type 0} (opening : O → Rule) (session : S → Rule) (b
 -- A book in session likewise. A close, which would use it up, is not asked.
 pub record Asked-open {O S : Type 0} (opening : O → Rule) (session : S → Rule) (before : Book trades.Trading O S) (call : Call) (answer : Answer) (after : Book trades.Trading O S) : Type 0 where
   pub gives : (call ≡ CloseBook → ⊥) → Gives (step (rules-of opening session (before .held)) (trading before) call) answer (trading after)
+  pub unclosed : call ≡ CloseBook → (answer ≡ WrongPhase) × (trading after ≡ trading before)
   pub policies : Same-policies (before .held) (after .held)
 
 -- An opening uses the book up and gives the session book.

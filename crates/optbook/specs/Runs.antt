@@ -59,7 +59,7 @@ Obeyed before (asks.Share policy lots queue) answer after =
 Obeyed before (asks.Book making) answer after =
     (answer ≡ Ok Made) × Makes making (after .desk) × (after .ledger ≡ blank)
 Obeyed before (asks.Call call) answer after =
-    made answer (λ a. (said : calls.Answer) × (a ≡ Called said) × Done before call said after)
+    (said : calls.Answer) × (answer ≡ Ok (Called said)) × Done before call said after
 Obeyed before asks.Show answer after = Shows before answer × (after ≡ before)
 
 -- The balance is of the book at hand.

@@ -1,4 +1,4 @@
-// optbook: plays a script of calls, and answers each with a line.
+// optbook: plays a script of calls, and answers each.
 mod answer;
 mod desk;
 mod ledger;
@@ -19,7 +19,7 @@ use std::io::BufReader;
 use tally::TallyDisplay;
 
 const HELP: &str = "\
-optbook plays a script of calls and answers each call with one line.
+optbook plays a script of calls and answers each.
 
 usage: optbook [FILE]     play the script in FILE, or the one on standard input
        optbook --help     print this (or -h)

@@ -1,13 +1,10 @@
-// The ranges and capacities of a book, each in one place. The largest volume is that of a queue's place,
-// `policy::MOST_LOTS`.
+// The ranges and capacities that checks name. The largest volume is that of a queue's place, `policy::MOST_LOTS`.
 pub const LOWEST_PRICE: u32 = 1;
 
 pub const HIGHEST_PRICE: u32 = 4_000_000;
 
-// The most orders that are open at a time, and the most lines of a tape.
+// The most orders that are open at a time: as many as the table has places.
 pub const MOST_ORDERS: usize = 256;
-
-pub const MOST_TAPE_LINES: usize = 512;
 
 // Trading IDs run from 1.
 pub const MOST_IDS: u8 = 64;

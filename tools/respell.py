@@ -18,7 +18,9 @@ import re
 import sys
 
 NAME = re.compile(r"[A-Za-z_][\w'′]*(?:-[\w'′]+)*")
-DECLARED = re.compile(r"^\s*(?:(?:abbrev|unfoldable|pub|record|data)\s+)*([A-Za-z][\w'′]*(?:-[\w'′]+)+)\s*(?=[:({]|\s[:({])")
+DECLARED = re.compile(r"^\s*(?:(?:abbrev|unfoldable|pub)\s+)*(?:(?:record|data)\s+([A-Za-z][\w'′]*(?:-[\w'′]+)+)|([A-Za-z][\w'′]*(?:-[\w'′]+)+)\s*:)")
+# What a file takes from elsewhere keeps its name there.
+TAKEN = re.compile(r"^\s*(?:ghost )?use (?:Rattle\.std|borrow|denote|native|lib|mathlib|logic|specs)\b[^{]*\{([^}]*)\}", re.M)
 WORDS = ["overflow_add", "overflow_sub", "overflow_mul", "overflow_cast", "overflow_step", "overflow_shl", "overflow_shr",
          "nonzero_div", "nonzero_rem", "slice_bounds", "offset_bounds", "in_ok", "in_err", "in_default", "invariant_of"]
 # Names that Rattle makes in every proof, which only look like ours.
@@ -85,7 +87,7 @@ def main():
             for line in text.splitlines():
                 m = DECLARED.match(line)
                 if m and not line.lstrip().startswith("--") and not (answers(path) and re.search(r":\s*goal\.", line)):
-                    name = m.group(1)
+                    name = m.group(1) or m.group(2)
                     if not (answers(path) and MADE.match(name)):
                         ours[name] = respelled(name)
     # names of the source with an underscore, by their spelling with a dash
@@ -109,9 +111,13 @@ def main():
     made = re.compile(r"(?<![\w'-])(?:" + "|".join(map(re.escape, longest)) + r")(?![\w'])") if longest else None
     inner = re.compile(r"(?<![\w'])(?:" + "|".join(map(re.escape, longest)) + r")(?![\w'])")
 
+    taken = {p: {n.strip() for group in TAKEN.findall(text) for n in group.split(",")} for p, text in texts.items()}
+
     def turn(path, piece):
         def one(m):
             name = m.group(0)
+            if name in taken[path]:
+                return name
             if name in ours:
                 return ours[name]
             if answers(path) and "-" in name:

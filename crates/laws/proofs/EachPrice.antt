@@ -1,7 +1,7 @@
 -- On each tape as many lots are bought as sold at each price.
 use Rattle.std.proofs.Common.{◌≡◌, ℕ, ◌+◌, ◌-◌, min, Bool, true, false, cond, ◌&&◌, eqb, List, [], ◌∷◌, ◌++◌, map, Some, None, filter, Option, sym, refl, ap, ◌∙◌, subst, arith}
 use Rattle.std.specs.List.{AllByRecursion as All}
-use Rattle.std.proofs.lemmas.Bool.{cond_both, cond_true, cond-false}
+use Rattle.std.proofs.lemmas.Bool.{cond_both, cond-true, cond-false}
 use Rattle.policy.specs.Fair.{Rule, Fairly}
 use Rattle.rules.specs.declared.order.Side.{Side}
 use Rattle.rules.specs.declared.order.Side.TheVariants.{Bid, Offer}
@@ -66,7 +66,7 @@ module _ (rule : Rule) (fair : Fairly rule) (number : ℕ) (s : Side) where
       let n : ℕ = min v (held (at s (Limit y)) os) in
       let theirs = fill_kind rule fair (Entry number) s v (Limit y) m b (λ side kind. is (other s) side) in
       let none = cond-false (is (other s) s) n 0 (other_not s) in
-      let mine = cond_true (is (other s) (other s)) n 0 (is_self (other s)) in
+      let mine = cond-true (is (other s) (other s)) n 0 (is_self (other s)) in
       two_sides (λ (z : Side). side_lots z (fill rule (Entry number) s v (Limit y) m).tape) n s
       (omega (arith, fill_trades rule fair (Entry number) s v (Limit y) m b tt))
       (omega (arith, fill_account rule fair (Entry number) s v (Limit y) m b tt (λ i side. is (other s) side)))

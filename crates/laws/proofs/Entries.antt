@@ -1,6 +1,6 @@
 -- An entry in session: its answer is what the tape and the book say, and it trades on as long as it may.
 use Rattle.std.proofs.Common.{◌≡◌, ℕ, ◌-◌, ◌<◌, min, Bool, true, false, cond, eqb, ltb, List, [], ◌∷◌, ◌++◌, Some, None, Option, sym, refl, ap, ◌∙◌, subst, inl, inr, arith}
-use Rattle.std.proofs.lemmas.Bool.{cond_both, cond_true, cond-false, leb-true, leb-false, ltb-true, eq-eqb, ne_eqb, and_parts}
+use Rattle.std.proofs.lemmas.Bool.{cond_both, cond-true, cond-false, leb-true, leb-false, ltb-true, eq-eqb, ne_eqb, and_parts}
 use Rattle.policy.specs.Fair.{Rule, Fairly}
 use Rattle.rules.specs.declared.order.Side.{Side}
 use Rattle.rules.specs.declared.order.Side.TheVariants.{Bid, Offer}
@@ -92,7 +92,7 @@ kept_unmet (Mv minimum) number lots r e = inr (refl, leb-false minimum r e)
 
 -- What is left of an entry stays open, or is withdrawn.
 rest_stays : (r : Bool) (n : ℕ) → r ≡ true → cond r 0 n ≡ 0
-rest_stays r n e = cond_true r 0 n e
+rest_stays r n e = cond-true r 0 n e
 
 rest_goes : (r : Bool) (n : ℕ) → r ≡ false → cond r n 0 ≡ 0
 rest_goes r n e = cond-false r n 0 e
@@ -126,7 +126,7 @@ module _ (rule : Rule) (fair : Fairly rule) (e : Incoming) (os : List Order) (b 
   own_open =
       let k = matching_keeps rule fair e os b in
       let self : eqb e.number e.number ≡ true = eq-eqb e.number e.number refl in
-      omega (arith, k.conserved own, k.all_lots, own_traded, held_fresh e.number os fresh, cond_true (eqb e.number e.number) e.lots 0 self, cond_true (eqb e.number e.number) (matched rule e os).withdrawn 0 self)
+      omega (arith, k.conserved own, k.all_lots, own_traded, held_fresh e.number os fresh, cond-true (eqb e.number e.number) e.lots 0 self, cond-true (eqb e.number e.number) (matched rule e os).withdrawn 0 self)
 
   -- it trades on as long as an order is left that it accepts
   met_on : (n : ℕ) → min e.lots (reach e os) < e.lots → (x : ℕ) → In x (prices (other e.side) ((met rule e os).orders ++ resting e e.limit n)) → accepts e.side e.limit x ≡ false
@@ -232,7 +232,7 @@ module _ (R : Rules) (m : Machine) (g : Good m) where
       let lots : ℕ = volume_asked c in
       let own : Order → Bool = λ o. eqb m.next o.number in
       let new : Order = record { number = m.next; id = id; side = side; kind = kind; lots = lots; lifetime = lifetime_in m t } in
-      let self = cond_true (eqb m.next m.next) lots 0 (eq-eqb m.next m.next refl) in
+      let self = cond-true (eqb m.next m.next) lots 0 (eq-eqb m.next m.next refl) in
       subst (λ (z : EntryAnswer). Waits (seen m c (wait m id side kind lots t)) z) (entered_is (answered m.next 0 0 lots) a h)
       (record {
         none_traded = refl;

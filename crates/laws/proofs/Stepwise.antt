@@ -1,6 +1,6 @@
 -- Every call keeps what is known of the open orders, and its lines keep the laws.
 use Rattle.std.proofs.Common.{◌≡◌, ℕ, ◌+◌, ◌-◌, ◌≤◌, min, Bool, true, false, cond, not, ◌&&◌, eqb, ◌⊎◌, List, [], ◌++◌, map, Some, None, filter, Option, sym, refl, ap, ◌∙◌, subst, inl, inr, arith}
-use Rattle.std.proofs.lemmas.Bool.{cond_both, cond_true, cond-false, eq-eqb, ne_eqb, and_right}
+use Rattle.std.proofs.lemmas.Bool.{cond_both, cond-true, cond-false, eq-eqb, ne_eqb, and_right}
 use Rattle.std.proofs.lemmas.Bool.Decides.{nat_tests}
 use Rattle.std.proofs.ByRecursion.{All-weaker, All-append, All-push}
 use Rattle.policy.specs.Fair.{Rule, Fairly}
@@ -106,7 +106,7 @@ module _ (es : List Event) (c : Call) (m : Machine) (o : Outcome) (g : Good m) (
 
   new_given : sum (given_on side m.next) (longer es c m o) ≡ 1
   new_given =
-      let one : given_on side m.next (seen m c o) ≡ 1 = enters.gives side m.next ∙ (cond_true (eqb m.next m.next) (cond (is side side) 1 0) 0 (eq-eqb m.next m.next refl) ∙ cond_true (is side side) 1 0 (is_self side)) in
+      let one : given_on side m.next (seen m c o) ≡ 1 = enters.gives side m.next ∙ (cond-true (eqb m.next m.next) (cond (is side side) 1 0) 0 (eq-eqb m.next m.next refl) ∙ cond-true (is side side) 1 0 (is_self side)) in
       omega (arith, sum_more (given_on side m.next) es (seen m c o), (k.unused m.next (omega arith)).1 side)
 
 -- before the opening the entry waits, and writes nothing
@@ -160,7 +160,7 @@ meet_fine R fair es c m e g k trading is-next enters =
             entered = is-given;
             kept = λ q is-q. accepts_within e.side q x (subst (λ (l : Option ℕ). accepts e.side l x ≡ true) (sym is-limit ∙ is-q) a);
             first = λ q is-q. none_better_own rule fair e os g.book u (e.lots - n) q x (sym is-limit ∙ is-q) a lots;
-            rests = at_rest e.number x (inl (cond_true (eqb e.number m.next) 1 0 (eq-eqb e.number m.next is-next)));
+            rests = at_rest e.number x (inl (cond-true (eqb e.number m.next) 1 0 (eq-eqb e.number m.next is-next)));
           }))
           (λ _. tt))
           (λ _. tt);
@@ -176,7 +176,7 @@ good_within Offer p x h = grind (arith, nat_tests)
 -- the limit after an opening with a price
 turned_limit : (p : ℕ) (k : Kind) (w : Bool) (old : Option ℕ) → old ≡ limit_said k → w ≡ same OnOpen k → turned_to (Some p) w old ≡ limit_said (limit_at p k)
 turned_limit p (Limit x) w old h e = cond-false w (Some p) old e ∙ h
-turned_limit p OnOpen w old h e = cond_true w (Some p) old e
+turned_limit p OnOpen w old h e = cond-true w (Some p) old e
 
 module _ (R : Rules) (fair : Fairly R.opening) (es : List Event) (m : Machine) (g : Good m) (k : Known es m) (shut : m.phase ≡ PreOpen) where
   abbrev opens : Outcome
@@ -247,7 +247,7 @@ module _ (R : Rules) (opening : Fairly R.opening) (session : Fairly R.session) (
   own_limit x n old ne = cond-false (eqb n m.next) (Some x) old ne
 
   its_limit : (x : ℕ) → cond (eqb m.next m.next) (Some x) None ≡ Some x
-  its_limit x = cond_true (eqb m.next m.next) (Some x) None (eq-eqb m.next m.next refl)
+  its_limit x = cond-true (eqb m.next m.next) (Some x) None (eq-eqb m.next m.next refl)
 
   -- a call that neither enters nor opens
   silently : (c : Call) (o : Outcome) → ((n : ℕ) → Silent c m o n) → o.after.next ≡ m.next → (Everywhere (Of (longer es c m o)) m.orders → Everywhere (Of (longer es c m o)) o.after.orders) → writes m.phase c ≡ false → Fine es c m o

@@ -1,6 +1,6 @@
 -- An entry that meets its condition, from what the code does.
 use Rattle.std.proofs.Common.{◌≡◌, ℕ, ◌+◌, ◌-◌, ◌≤◌, min, Bool, true, false, cond, List, [], ◌∷◌, ◌++◌, map, length, Some, None, filter, Option, sym, refl, ap, ◌∙◌, subst, arith}
-use Rattle.std.proofs.lemmas.Bool.{cond_true}
+use Rattle.std.proofs.lemmas.Bool.{cond-true}
 use Rattle.std.proofs.lemmas.Bool.Decides.{nat_tests}
 use Rattle.policy.specs.Fair.{Rule, Fairly}
 use Rattle.rules.specs.declared.order.Side.{Side}
@@ -88,7 +88,7 @@ met_allowed rule e os tape n side ps r left es ep z exact is some =
     record {
       ok = subst (λ (x : ℕ). enough e.condition e.lots x ≡ true) all k.0;
       left_is = k.1 ∙ ap (λ (x : ℕ). e.lots - x) all;
-      walked = met_from rule e os tape n side ps es ep z (exact ∙ cond_true (enough e.condition e.lots reached) _ _ k.0);
+      walked = met_from rule e os tape n side ps es ep z (exact ∙ cond-true (enough e.condition e.lots reached) _ _ k.0);
     }
 
 pub met_length : (rule : Rule) → Fairly rule → (e : Incoming) (os : List Order) → Book os → length (met rule e os).orders ≤ length os

@@ -1,6 +1,6 @@
 -- The walk through the levels of a side, best first.
 use Rattle.std.proofs.Common.{◌≡◌, ℕ, ◌+◌, ◌-◌, ◌<◌, ◌≤◌, min, Bool, true, false, cond, ◌&&◌, eqb, List, [], ◌∷◌, map, length, Some, None, filter, sym, refl, ap, ◌∙◌, subst, inl, inr, arith}
-use Rattle.std.proofs.lemmas.Bool.{cases_lt, cases_eq, cond_both, cond_true, cond-false, eq-eqb, ne_eqb}
+use Rattle.std.proofs.lemmas.Bool.{cases_lt, cases_eq, cond_both, cond-true, cond-false, eq-eqb, ne_eqb}
 use Rattle.policy.specs.Fair.{Rule, Fairly}
 use Rattle.rules.specs.declared.order.Side.{Side}
 use Rattle.rules.specs.declared.order.Kind.{Kind}
@@ -37,7 +37,7 @@ pub record Walked (rule : Rule) (terms : Terms) (s : Side) (t : ℕ → Bool) (v
 
 pub next_some : (left x : ℕ) (xs : List ℕ) → next_of left xs ≡ Some x → (0 < left) × (first_of xs ≡ Some x)
 next_some left x xs e = elim (cases_eq left 0) [
-  | inl z ↦ (let f : Some x ≡ None = sym e ∙ cond_true (eqb left 0) None (first_of xs) (eq-eqb left 0 z) in let y : ◌≡◌ {A = ℕ} 0 1 = cc in absurd (omega arith))
+  | inl z ↦ (let f : Some x ≡ None = sym e ∙ cond-true (eqb left 0) None (first_of xs) (eq-eqb left 0 z) in let y : ◌≡◌ {A = ℕ} 0 1 = cc in absurd (omega arith))
   | inr some ↦ (omega arith, sym (cond-false (eqb left 0) None (first_of xs) (ne_eqb left 0 some)) ∙ e)
 ]
 
@@ -90,7 +90,7 @@ module _ (rule : Rule) (fair : Fairly rule) (terms : Terms) (s : Side) (t : ℕ 
     arith,
     fill_kind rule fair terms s left (Limit x) n b (λ side kind. is s side && priced t kind),
     ap (λ c. cond c (min left L) 0) (own_test s (t x)),
-    cond_true (t x) (min left L) 0 (next_passes s t n.orders b.sound x e),
+    cond-true (t x) (min left L) 0 (next_passes s t n.orders b.sound x e),
   )
 
   -- once a level has traded out, the prices behind it are those that are left
@@ -105,7 +105,7 @@ module _ (rule : Rule) (fair : Fairly rule) (terms : Terms) (s : Side) (t : ℕ 
       (omega (arith, next_at z, k.0), k.1))
       (λ z h p. elim (subst (λ ys. In z ys) f (in_ranked s t n.orders z (omega (arith, next_at z)) p)) [
         | inl is_x ↦
-            (let yes = cond_true (eqb z x) (min left L) 0 (eq-eqb z x is_x) in
+            (let yes = cond-true (eqb z x) (min left L) 0 (eq-eqb z x is_x) in
             let here = ap (λ y. lots_at s n.orders y) is_x in
             absurd (omega (arith, next_at z, at_level s x n.orders)))
         | inr i ↦ i

@@ -1,6 +1,6 @@
 -- What an answer tells its caller. Assumes nothing.
 use Rattle.std.proofs.Common.{◌≡◌, ℕ, min, true, List, length, Ok, Err, ◌∙◌, ⊎_elim, arith}
-use Rattle.std.proofs.lemmas.Bool.{cases_Bool, cond_true, cond-false}
+use Rattle.std.proofs.lemmas.Bool.{cases_Bool, cond-true, cond-false}
 use Rattle.policy.specs.Fair.{Rule, Fairly, total}
 use Rattle.policy.specs.Asked.{answered, Answered}
 use Rattle.policy.specs.declared.Refusal.TheVariants.{NotAQueue}
@@ -15,7 +15,7 @@ taken_answered rule q v before after u a =
     (cases_Bool (answered q (length before)))
 
 pub taken_shares : (rule : Rule) (q : List ℕ) (v : ℕ) (before after : List ℕ) (u : Unit {0}) → Answered rule q v before after (Ok u) → after ≡ rule q v
-taken_shares rule q v before after u a = a.shares ∙ cond_true _ _ _ (taken_answered rule q v before after u a)
+taken_shares rule q v before after u a = a.shares ∙ cond-true _ _ _ (taken_answered rule q v before after u a)
 
 -- the shares of such an answer add up
 pub taken_adds : (rule : Rule) → Fairly rule → (q : List ℕ) (v : ℕ) (before after : List ℕ) (u : Unit {0}) → Answered rule q v before after (Ok u) → total after ≡ min v (total q)

@@ -2,7 +2,7 @@
 use Rattle.std.proofs.Common.{◌≡◌, ℕ, zero, suc, ◌+◌, ◌-◌, ◌*◌, ◌/◌, ◌%◌, ◌<◌, ◌≤◌, min, cond, ◌&&◌, ltb, List, [], ◌∷◌, length, get_or, take, count_by, sym, refl, ap, ◌∙◌, subst, add-zero, mod-lt, add-mul, one-mul, div-add-mod', zero-add, zero-mul, arith}
 use native.Mathlib.Nat.{sub-zero}
 use Rattle.std.proofs.lemmas.List.Sums.{sum_by-cons}
-use Rattle.std.proofs.lemmas.Bool.{cond_both, cond_true, cond-false, lt-leb, le-leb, ltb-true, and_parts}
+use Rattle.std.proofs.lemmas.Bool.{cond_both, cond-true, cond-false, lt-leb, le-leb, ltb-true, and_parts}
 use Rattle.policy.specs.Fair.{total, Within, Rule}
 use Rattle.policy.specs.PriceTime.{price_time}
 use Rattle.policy.specs.ProRata.{whole, broken, spare, dealt, shared}
@@ -103,7 +103,7 @@ favour_first =
       gets = λ limit minimum below fair first others v h holds.
           let q = first ∷ others in
           let g = favoured limit minimum q v in
-          let is : g ≡ min v (min (capped limit) first) = cond_true _ _ _ (le-leb (capped minimum) first holds) in
+          let is : g ≡ min v (min (capped limit) first) = cond-true _ _ _ (le-leb (capped minimum) first holds) in
           let f = fair (less q g) (v - g) (less_queue q g h) in
           omega (arith, is, more_first (first - g) others (below (less q g) (v - g)) g f.within);
       too_small = λ limit minimum below first others v h.

@@ -1,6 +1,6 @@
 -- Pro rata is fair. Assumes nothing.
 use Rattle.std.specs.Prelude.{◌≡◌, ℕ, zero, suc, ◌+◌, ◌-◌, ◌*◌, ◌/◌, ◌%◌, ◌<◌, ◌≤◌, min, cond, ◌&&◌, List, [], ◌∷◌, map, nat_lt, refl}
-use Rattle.std.proofs.Common.{sym, ap, subst, ◌∙◌, ⊎_elim, mul-add, add-mul, mul-zero, zero-mul, one-mul, mul_comm, div-add-mod', mod-lt, mul-le-mul_right, le_of_mul_le_mul_right, lt_of_mul-lt-mul_right, arith}
+use Rattle.std.proofs.Common.{sym, ap, subst, ◌∙◌, ⊎_elim, mul-add, add-mul, mul-zero, zero-mul, one-mul, mul_comm, div-add-mod', mod-lt, mul-le-mul_right, le_of_mul-le-mul_right, lt_of_mul-lt-mul_right, arith}
 use Rattle.std.proofs.Math.Nat.{div-zero, mod-zero, sub-zero}
 use Rattle.std.proofs.lemmas.Bool.{cases_lt}
 use Rattle.std.proofs.lemmas.Bool.Decides.{nat_tests}
@@ -39,7 +39,7 @@ dealt_is t v r before (x ∷ xs) =
 pub whole_le : (t v x : ℕ) → v ≤ t → v * x / t ≤ x
 whole_le zero v x le = omega (arith, div-zero (v * x))
 whole_le (suc t) v x le =
-    le_of_mul_le_mul_right {m = v * x / suc t} {n = x} {k = suc t}
+    le_of_mul-le-mul_right {m = v * x / suc t} {n = x} {k = suc t}
     (omega (arith, div-add-mod' (v * x) (suc t), mul-le-mul_right x le, mul_comm (suc t) x)) (omega arith)
 
 pub share_le : (t v left x : ℕ) → v ≤ t → v * x / t + extra left (v * x % t) ≤ x
@@ -94,7 +94,7 @@ rounded_none v (x ∷ xs) = omega (arith, rounded_none v xs, div-zero (v * x))
 pub rounded_le : (v : ℕ) (q : List ℕ) → total (map (whole (total q) v) q) ≤ v
 rounded_le v q =
     ⊎_elim
-    (λ (pos : 0 < total q). le_of_mul_le_mul_right (rounded_low (total q) v q) pos)
+    (λ (pos : 0 < total q). le_of_mul-le-mul_right (rounded_low (total q) v q) pos)
     (λ (e : total q ≤ 0). let z : total q ≡ 0 = omega arith in omega (arith, ap (λ t. total (map (whole t v) q)) z, rounded_none v q))
     (cases_lt 0 (total q))
 
@@ -107,7 +107,7 @@ dealing_adds v q le =
     let low = rounded_le v q in
     let sum = dealing_total t v (spare t v q) q in
     ⊎_elim
-    (λ (pos : 0 < t). let high : v ≤ total (map (whole t v) q) + breaks t v q = le_of_mul_le_mul_right (rounded_high t v q pos) pos in omega arith)
+    (λ (pos : 0 < t). let high : v ≤ total (map (whole t v) q) + breaks t v q = le_of_mul-le-mul_right (rounded_high t v q pos) pos in omega arith)
     (λ (e : t ≤ 0). omega arith)
     (cases_lt 0 t)
 

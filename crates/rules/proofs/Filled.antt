@@ -2,7 +2,7 @@
 use Rattle.std.proofs.Common.{◌≡◌, ℕ, suc, ◌+◌, ◌-◌, ◌≤◌, min, Bool, true, false, cond, ◌&&◌, ltb, List, [], ◌∷◌, ◌++◌, map, length, filter, sym, refl, ap, ◌∙◌, arith}
 use Rattle.std.specs.List.{AllByRecursion as All}
 use Rattle.std.proofs.lemmas.List.{append-nil}
-use Rattle.std.proofs.lemmas.Bool.{cond_both, cond_true, cond-false, ltb-true, ltb-false, eqb-true, lt-ltb, le-ltb, eq-eqb}
+use Rattle.std.proofs.lemmas.Bool.{cond_both, cond-true, cond-false, ltb-true, ltb-false, eqb-true, lt-ltb, le-ltb, eq-eqb}
 use Rattle.std.proofs.ByRecursion.{kept_by_passes, All-weaker, all_kept_by, All-append}
 use Rattle.policy.specs.Queue.{Queue}
 use Rattle.policy.specs.Fair.{total, Within, Fair, Rule, Fairly}
@@ -271,13 +271,13 @@ module _ (rule : Rule) (fair : Fairly rule) (terms : Terms) (s : Side) (v : ℕ)
 
   -- of the level itself
   pub fill_level : held (at s k) (fill rule terms s v k m).orders + min v (held (at s k) m.orders) ≡ held (at s k) m.orders
-  fill_level = omega (arith, fill_kind (λ side kind. is s side && same k kind), cond_true (is s s && same k k) (min v (held (at s k) m.orders)) 0 (at_self s k))
+  fill_level = omega (arith, fill_kind (λ side kind. is s side && same k kind), cond-true (is s s && same k k) (min v (held (at s k) m.orders)) 0 (at_self s k))
 
   -- the lots of the side on the tape rise by those the level traded
   pub fill_trades : Writes terms k → lined (λ n side. is s side) (fill rule terms s v k m).tape ≡ lined (λ n side. is s side) m.tape + min v (held (at s k) m.orders)
   fill_trades w =
       let n : ℕ = min v (held (at s k) m.orders) in
-      omega (arith, fill_account w (λ n side. is s side), own_side terms s n, fill_kind (λ side kind. is s side), cond_true (is s s) n 0 (is_self s))
+      omega (arith, fill_account w (λ n side. is s side), own_side terms s n, fill_kind (λ side kind. is s side), cond-true (is s s) n 0 (is_self s))
 
 -- ---- the prices of the lines
 

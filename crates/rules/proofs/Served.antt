@@ -1,7 +1,7 @@
 -- Levels served in turn: a side's lots, best price first.
 use Rattle.std.proofs.Common.{◌≡◌, ℕ, ◌+◌, ◌-◌, ◌<◌, ◌≤◌, min, Bool, true, false, cond, ◌&&◌, eqb, List, [], ◌∷◌, map, length, filter, sym, refl, ap, ◌∙◌, subst, inl, inr, arith}
 use Rattle.std.specs.List.{AllByRecursion as All}
-use Rattle.std.proofs.lemmas.Bool.{cases_lt, cases_Bool, cond_both, cond_true, cond-false, eq-eqb}
+use Rattle.std.proofs.lemmas.Bool.{cases_lt, cases_Bool, cond_both, cond-true, cond-false, eq-eqb}
 use Rattle.std.proofs.lemmas.Bool.Decides.{nat_tests}
 use Rattle.std.proofs.ByRecursion.{All-weaker, all_kept_by}
 use Rattle.policy.specs.Fair.{Rule, Fairly}
@@ -86,7 +86,7 @@ module _ (rule : Rule) (fair : Fairly rule) (terms : Terms) (s : Side) where
       let w : ℕ = v - L in
       let z : ℕ = side_held s (serve rule terms s w (map Limit xs) n).orders in
       let e = fill_kind rule fair terms s v (Limit x) m b (λ side kind. is s side) in
-      let c = cond_true (is s s) (min v L) 0 (is_self s) in
+      let c = cond-true (is s s) (min v L) 0 (is_self s) in
       let le = serve_le w (map Limit xs) n nb (λ side kind. is s side) in
       let d : min v L + (side_held s n.orders - z) ≡ side_held s m.orders - z = omega arith in
       omega (

@@ -2,7 +2,7 @@
 use Rattle.std.proofs.Common.{◌≡◌, ℕ, ◌+◌, ◌-◌, ◌<◌, ◌≤◌, min, Bool, true, false, cond, not, ◌&&◌, eqb, ltb, ◌⊎◌, List, [], ◌∷◌, ◌++◌, map, length, Some, None, filter, Option, sym, refl, ap, ◌∙◌, subst, inl, inr, arith, length-append}
 use Rattle.std.specs.List.{AllByRecursion as All}
 use Rattle.std.proofs.lemmas.List.{append-nil}
-use Rattle.std.proofs.lemmas.Bool.{cases_eq, cases_lt, cases_Bool, cond_both, cond_true, cond-false, ltb-true, ltb-false, leb-false, eq-eqb, ne_eqb, and_parts}
+use Rattle.std.proofs.lemmas.Bool.{cases_eq, cases_lt, cases_Bool, cond_both, cond-true, cond-false, ltb-true, ltb-false, leb-false, eq-eqb, ne_eqb, and_parts}
 use Rattle.std.proofs.lemmas.Bool.Decides.{nat_tests}
 use Rattle.std.proofs.ByRecursion.{kept_by_passes, All-weaker, All-append}
 use Rattle.policy.specs.Fair.{Rule, Fairly}
@@ -134,7 +134,7 @@ module _ (rule : Rule) (fair : Fairly rule) (e : Incoming) (os : List Order) (b 
   met_even =
       let n : ℕ = min e.lots (reach e os) in (
         omega (arith, met_account (λ i side. is far side), met_traded, cond-false (is far (other far)) n 0 (other_side e.side), serve_le rule fair (Entry e.number) far e.lots (map Limit met_prices) (record { orders = os; tape = [] }) b (λ side kind. is far side)),
-        omega (arith, met_account (λ i side. is e.side side), cond_true (is e.side (other far)) n 0 (own_line e.side), side_split e.side os, side_split e.side (met rule e os).orders, met_own_side (priced (λ x. true)), met_own_side (same OnOpen)),
+        omega (arith, met_account (λ i side. is e.side side), cond-true (is e.side (other far)) n 0 (own_line e.side), side_split e.side os, side_split e.side (met rule e os).orders, met_own_side (priced (λ x. true)), met_own_side (same OnOpen)),
       )
 
   -- every line is at a price that the entry accepts

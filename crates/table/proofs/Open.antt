@@ -6,7 +6,7 @@ use Rattle.std.proofs.lemmas.List.{length-take-le, length-set, get_or-take, get_
 use Rattle.std.proofs.lemmas.List.Edits.{between_more}
 use Rattle.std.proofs.lemmas.List.Elements.{filter_more}
 use Rattle.std.proofs.lemmas.List.Filters.{FiltersInPlace}
-use Rattle.std.proofs.lemmas.Bool.{cond_true, cond-false, cases_lt}
+use Rattle.std.proofs.lemmas.Bool.{cond-true, cond-false, cases_lt}
 use Rattle.rules.specs.declared.order.Order.{Order}
 use Rattle.rules.specs.declared.order.Side.{Side}
 use Rattle.rules.specs.declared.order.Side.TheVariants.{Bid}
@@ -135,7 +135,7 @@ moved_more xs ys at k d le lt e front rest =
     cc
 
 pub kept_yes : {X : Type 0} (p : X → Bool) (xs : List X) (i : ℕ) (d : X) → i < length xs → p (get_or xs i d) ≡ true → filter p (take (i + 1) xs) ≡ filter p (take i xs) ++ get_or xs i d ∷ []
-kept_yes p xs i d h on = filter_more p xs i d h ∙ ap (λ l. filter p (take i xs) ++ l) (cond_true (p (get_or xs i d)) _ _ on)
+kept_yes p xs i d h on = filter_more p xs i d h ∙ ap (λ l. filter p (take i xs) ++ l) (cond-true (p (get_or xs i d)) _ _ on)
 
 pub kept_no : {X : Type 0} (p : X → Bool) (xs : List X) (i : ℕ) (d : X) → i < length xs → p (get_or xs i d) ≡ false → filter p (take (i + 1) xs) ≡ filter p (take i xs)
 kept_no p xs i d h off = filter_more p xs i d h ∙ ap (λ l. filter p (take i xs) ++ l) (cond-false (p (get_or xs i d)) _ _ off) ∙ append-nil (filter p (take i xs))

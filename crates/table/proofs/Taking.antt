@@ -1,7 +1,7 @@
 -- The loop that takes the shares off a level, one order at a time.
 use Rattle.std.proofs.Common.{◌≡◌, ℕ, ◌+◌, ◌<◌, ◌≤◌, Bool, true, false, ltb, List, [], ◌∷◌, ◌++◌, map, length, get_or, take, drop, set, sym, refl, ap, ◌∙◌, arith}
 use Rattle.std.proofs.lemmas.List.{take_more, take_more_set, append_assoc, at_drop_more, drop_more, drop-drop, length-drop, length-append, drop-set-lt, length-set}
-use Rattle.std.proofs.lemmas.Bool.{cond_true, cond-false, cond_both}
+use Rattle.std.proofs.lemmas.Bool.{cond-true, cond-false, cond_both}
 use Rattle.policy.specs.Fair.{Within}
 use Rattle.rules.specs.declared.order.Order.{Order}
 use Rattle.rules.specs.declared.order.Side.{Side}
@@ -37,7 +37,7 @@ taken_no s k [] o os off = ap (λ l. o ∷ l) (sym (taken_none s k os))
 taken_no s k (g ∷ gs) o os off = cond-false (at s k o) _ _ off
 
 pub taken_yes : (s : Side) (k : Kind) (g : ℕ) (gs : List ℕ) (o : Order) (os : List Order) → at s k o ≡ true → taken s k (g ∷ gs) (o ∷ os) ≡ less o g ∷ taken s k gs os
-taken_yes s k g gs o os on = cond_true (at s k o) _ _ on
+taken_yes s k g gs o os on = cond-true (at s k o) _ _ on
 
 pub short_line : (number : ℕ) (s : Side) (p lots : ℕ) → length (line number s p lots) ≤ 1
 short_line number s p lots = cond_both (ltb 0 lots) _ _ (λ (l : List TapeLine). length l ≤ 1) (λ e. omega arith) (λ e. omega arith)
@@ -51,7 +51,7 @@ lines_few p (o ∷ os) (g ∷ gs) =
 
 module _ (s : Side) (k : Kind) (os : List Order) (i : ℕ) (d : Order) (in' : i < length os) where
   level_yes : at s k (get_or os i d) ≡ true → level s k (drop i os) ≡ get_or os i d ∷ level s k (drop (i + 1) os)
-  level_yes on = at_drop_more (level s k) os i d in' ∙ cond_true (at s k (get_or os i d)) _ _ on
+  level_yes on = at_drop_more (level s k) os i d in' ∙ cond-true (at s k (get_or os i d)) _ _ on
 
   level_no : at s k (get_or os i d) ≡ false → level s k (drop i os) ≡ level s k (drop (i + 1) os)
   level_no off = at_drop_more (level s k) os i d in' ∙ cond-false (at s k (get_or os i d)) _ _ off

@@ -99,7 +99,7 @@ def main():
                     for name in re.findall(r"\b[A-Za-z][A-Za-z0-9]*(?:_[A-Za-z0-9]+)+\b", piece):
                         source[name.replace("_", "-")] = name
     for name in ("saturating_add", "saturating_sub", "is_empty", "is_ascii_digit", "strip_prefix", "to_vec", "as_slice",
-                 "from_residual", "min_counted", "split_once", "from_utf8"):
+                 "from_residual", "split_once", "from_utf8"):
         source[name.replace("_", "-")] = name
     for word in WORDS:
         source[word.replace("_", "-")] = word

@@ -12,7 +12,7 @@ pub trade_allowed-requires : goal.trade_allowed-requires
 trade_allowed-requires g c =
     let os = open_orders c.args.table.now in
     let none : length (tape_lines c.clear.new.self) ≡ 0 = ap length c.clear.ensures in
-    let few = prices_few c.other_side.result os in
+    let few = prices_few c.other-side.result os in
     let most = (table_book c.args.table.now).few in
     omega arith
 
@@ -20,7 +20,7 @@ trade_allowed-requires g c =
 walked : (g : _) (c : goal.In-Some g) → Met (g.P.Policy.rule c.args.policy.now) c.args.e (open_orders c.args.table.now) (step_of c.trade_allowed.new.table c.trade_allowed.new.tape) c.in-Some.left
 walked g c =
     let traded = c.trade_allowed.ensures in
-    met_allowed (g.P.Policy.rule c.args.policy.now) c.args.e (open_orders c.args.table.now) (tape_lines c.clear.new.self) (step_of c.trade_allowed.new.table c.trade_allowed.new.tape) c.other_side.result c.accepted_prices.result c.trade_allowed.result c.in-Some.left c.other_side.ensures c.accepted_prices.ensures c.clear.ensures traded.exact traded.left c.in-Some.is
+    met_allowed (g.P.Policy.rule c.args.policy.now) c.args.e (open_orders c.args.table.now) (tape_lines c.clear.new.self) (step_of c.trade_allowed.new.table c.trade_allowed.new.tape) c.other-side.result c.accepted-prices.result c.trade_allowed.result c.in-Some.left c.other-side.ensures c.accepted-prices.ensures c.clear.ensures traded.exact traded.left c.in-Some.is
 
 pub set_rest-requires : goal.set_rest-requires
 set_rest-requires g c =

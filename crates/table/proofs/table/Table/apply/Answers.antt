@@ -25,7 +25,7 @@ invariant_of-self c =
     let swept = (goal.at.invariant_of-self c).After-sweep-left in
     let len = long swept in
     let fit = ap all_fit (front swept) ∙ fit_traded c.args.side c.args.kind c.args.shares.now (open_orders t) t.fit in
-    (put_long t c.sweep-left.new.orders len, (omega (arith, c.sweep-left.ensures.most, c.sweep-left.auto.orders, len, t.within), (fit, tt)))
+    record { long = put_long t c.sweep-left.new.orders len; within = omega (arith, c.sweep-left.ensures.most, c.sweep-left.auto.orders, len, t.within); fit = fit }
 
 pub returns : goal.returns
 returns c =

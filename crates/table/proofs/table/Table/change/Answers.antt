@@ -13,7 +13,7 @@ invariant_of-self c =
     let i = c.loop-i.i in
     let new = c.of.result in
     let fit = changed_fits c.args.change c.requires (get_or t.orders i no_order) (open_fits t i (omega arith)) in
-    (set_long t i new, (t.within, (set_fits t i new (rw (← c.of.ensures) at fit), tt)))
+    record { long = set_long t i new; within = t.within; fit = set_fits t i new (rw (← c.of.ensures) at fit) }
 
 pub loop-i-preserved : goal.loop-i-preserved
 loop-i-preserved c =

@@ -11,7 +11,7 @@ invariant_of-self c =
     let t = c.loop-k.self in
     let k = c.loop-k.k in
     let o = get_or t.orders (k + 1) no_order in
-    (set_long t k o, (t.within, (set_fits t k o (open_fits t (k + 1) (omega arith)), tt)))
+    record { long = set_long t k o; within = t.within; fit = set_fits t k o (open_fits t (k + 1) (omega arith)) }
 
 -- One order fewer.
 pub invariant_of-self-2 : goal.invariant_of-self-2
@@ -19,7 +19,7 @@ invariant_of-self-2 c =
     let t = c.loop-k.self in
     let n = c.args.self.now.count - 1 in
     let fewer = take-take n t.count t.orders (omega arith) in
-    (t.long, (omega arith, (sym (ap all_fit fewer) ∙ fit_take n (open_orders t) t.fit, tt)))
+    record { long = t.long; within = omega arith; fit = sym (ap all_fit fewer) ∙ fit_take n (open_orders t) t.fit }
 
 pub loop-k-preserved : goal.loop-k-preserved
 loop-k-preserved c =

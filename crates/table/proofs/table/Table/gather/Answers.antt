@@ -4,7 +4,7 @@ use Rattle.rules.specs.declared.order.Order.{Order}
 use Rattle.rules.specs.Orders.{at, level}
 use Rattle.table.proofs.Open.{no_order, kept_yes, kept_no}
 use Rattle.table.proofs.table.Table.gather.Goals as goal
-use Rattle.table.proofs.table.Table.gather.Goals.{then_at, else-at}
+use Rattle.table.proofs.table.Table.gather.Goals.{then-at, else-at}
 
 pub loop-i-preserved : goal.loop-i-preserved
 loop-i-preserved c =
@@ -14,7 +14,7 @@ loop-i-preserved c =
     let n = c.loop-i.n in
     let long : i < length xs = omega arith in
     elim c.if-at.branch [
-      | then_at w ↦
+      | then-at w ↦
           let k = kept_yes p xs i no_order long (sym c.at.ensures ∙ w.if-at.true) in
           let put = take_more_set c.loop-i.queue n (get_or xs i no_order).lots (omega arith) in
           let m = map_push (λ (o : Order). o.lots) (level c.args.side c.args.kind (take i xs)) (get_or xs i no_order) in

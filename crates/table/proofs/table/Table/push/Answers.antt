@@ -11,7 +11,7 @@ invariant_of-self c =
     let t = c.args.self.now in
     let n = open_length t in
     let more = take_more_set t.orders t.count c.args.o (omega arith) in
-    (set_long t t.count c.args.o, (omega arith, (ap all_fit more ∙ fit_push (open_orders t) c.args.o t.fit c.requires.fit, tt)))
+    record { long = set_long t t.count c.args.o; within = omega arith; fit = ap all_fit more ∙ fit_push (open_orders t) c.args.o t.fit c.requires.fit }
 
 pub returns : goal.returns
 returns c =

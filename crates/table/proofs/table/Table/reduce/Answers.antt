@@ -32,7 +32,7 @@ invariant_of-self c =
     let b = lots_behind t c.args.number c.args.lots c.requires in
     let same = ap (λ i. (get_or t.orders i no_order).lots) e in
     let fit = less_fits o c.args.lots (omega (arith, b.1, same)) (open_fits t at (omega (arith, b.0))) in
-    (set_long t at c.less.result, (t.within, (set_fits t at c.less.result (subst Fits (sym c.less.ensures) fit), tt)))
+    record { long = set_long t at c.less.result; within = t.within; fit = set_fits t at c.less.result (subst Fits (sym c.less.ensures) fit) }
 
 pub returns : goal.returns
 returns c =

@@ -10,7 +10,7 @@ pub invariant_of-self : goal.invariant_of-self
 invariant_of-self c =
     let t = c.args.self.now in
     let fewer = take-take c.args.n t.count t.orders (omega arith) in
-    (t.long, (omega arith, (sym (ap all_fit fewer) ∙ fit_take c.args.n (open_orders t) t.fit, tt)))
+    record { long = t.long; within = omega arith; fit = sym (ap all_fit fewer) ∙ fit_take c.args.n (open_orders t) t.fit }
 
 pub returns-then-n-self : goal.returns-then-n-self
 returns-then-n-self c =

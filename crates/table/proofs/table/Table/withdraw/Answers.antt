@@ -56,7 +56,7 @@ invariant_of-self c =
     let t = c.loop-i.self in
     let o = get_or t.orders c.loop-i.i no_order in
     let fit = unread_fits c.args.self.now c.args.leaving t.orders c.loop-i.free c.loop-i.i c.loop-i.invariant.0 c.loop-i-test.true in
-    (set_long t c.loop-i.free o, (t.within, (set_fits t c.loop-i.free o fit, tt)))
+    record { long = set_long t c.loop-i.free o; within = t.within; fit = set_fits t c.loop-i.free o fit }
 
 front : (c : goal.After-loop-i) → take c.loop-i.free c.loop-i.self.orders ≡ filter (stays c.args.leaving) (open_orders c.args.self.now)
 front c = kept_open c.args.self.now c.args.leaving c.loop-i.self.orders c.loop-i.free c.loop-i.i c.loop-i.invariant.0 (omega (arith, c.loop-i-test.false, c.loop-i.auto.i-end))
@@ -65,7 +65,7 @@ pub invariant_of-self-2 : goal.invariant_of-self-2
 invariant_of-self-2 c =
     let t0 = c.args.self.now in
     let kept = c.loop-i.invariant.0 in
-    (c.loop-i.self.long, (omega (arith, kept.behind, c.loop-i.auto.i-end, t0.within), (ap all_fit (front c) ∙ fit_kept (stays c.args.leaving) (open_orders t0) t0.fit, tt)))
+    record { long = c.loop-i.self.long; within = omega (arith, kept.behind, c.loop-i.auto.i-end, t0.within); fit = ap all_fit (front c) ∙ fit_kept (stays c.args.leaving) (open_orders t0) t0.fit }
 
 same_pair : (a b c d : ℕ) → a ≡ b → c ≡ d → ◌≡◌ {A = ℕ × ℕ} (a, c) (b, d)
 same_pair a b c d e f = cc

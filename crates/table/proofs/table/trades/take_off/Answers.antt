@@ -8,7 +8,7 @@ use Rattle.table.specs.Tables.{tape_lines}
 use Rattle.table.proofs.Open.{no_order, read_same}
 use Rattle.table.proofs.Taking.{Taking, Writing, share_now, read_at, taking_no, taking_yes, writing_no, writing_yes}
 use Rattle.table.proofs.table.trades.take_off.Goals as goal
-use Rattle.table.proofs.table.trades.take_off.Goals.{then_at, else-at, Then-at}
+use Rattle.table.proofs.table.trades.take_off.Goals.{then-at, else-at, Then-at}
 
 -- The order that is read has a share.
 shared : (c : goal.Then-at) → c.loop-i.next < length c.args.shares.now
@@ -43,7 +43,7 @@ loop-i-preserved c =
     let t = c.loop-i.invariant.0 in
     let r = read_same os ys i no_order t.rest in
     elim c.if-at.branch [
-      | then_at w ↦
+      | then-at w ↦
           let on : at side kind (get_or ys i no_order) ≡ true = sym c.at.ensures ∙ w.if-at.true in
           let on0 = read_at side kind os i no_order in' shares ys next true t on in
           let some = share_now side kind os i no_order in' shares ys next t on in
@@ -52,11 +52,11 @@ loop-i-preserved c =
           let P : Order → Type 0 = λ y. Taking side kind shares os (set ys i y) (i + 1) (next + 1) in
           let Q : List TapeLine → Type 0 = λ ls. Writing side kind price shares os before ls (i + 1) (next + 1) in
           let same = ap (λ (o : Order). tape ++ line o.number o.side price (get_or shares next 0)) r in
-          rw (w.orders-is, w.tape_is, w.next-is) (subst P (sym w.trade.ensures.left) a, subst Q (sym same ∙ sym w.trade.ensures.written) b)
+          rw (w.orders-is, w.tape-is, w.next-is) (subst P (sym w.trade.ensures.left) a, subst Q (sym same ∙ sym w.trade.ensures.written) b)
       | else-at w ↦
           let off : at side kind (get_or ys i no_order) ≡ false = sym c.at.ensures ∙ w.if-at.false in
           let off0 = read_at side kind os i no_order in' shares ys next false t off in
-          rw (w.orders-is, w.tape_is, w.next-is) (taking_no side kind os i no_order in' shares ys next t off0, writing_no side kind os i no_order in' price shares before tape next c.loop-i.invariant.1 off0)
+          rw (w.orders-is, w.tape-is, w.next-is) (taking_no side kind os i no_order in' shares ys next t off0, writing_no side kind os i no_order in' price shares before tape next c.loop-i.invariant.1 off0)
     ]
 
 pub returns : goal.returns

@@ -22,6 +22,6 @@ shared rule queue v before after r said ok =
 pub returns-in-Ok : goal.returns-in-Ok
 returns-in-Ok c =
     let after = c.share.new.shares in
-    let right = shared (chosen_rule c.args.policy.now) c.args.queue.now c.args.lots c.deref-mut.result.now after c.share.result c.share.ensures c.in-Ok.is in
+    let right = shared (chosen_rule c.args.policy.now) c.args.queue.now c.args.lots c.deref_mut.result.now after c.share.result c.share.ensures c.in-Ok.is in
     let long : length after ≡ c.in_ok-shares.shares.len = search rules in
     (right.0, take_at after (drop (length after) c.in_ok-shares.shares.items) c.in_ok-shares.shares.len long ∙ right.1)

@@ -18,7 +18,7 @@ loop-n-preserved g c plain =
     let ns = c.args.numbers.now in
     let i = c.loop-n.n-index in
     let old = c.loop-n.invariant plain in
-    let new = c.in_ok-write.ensures.shows old.plain (refl {a = true}) in
+    let new = c.in_ok-write.ensures.writes old.plain (refl {a = true}) in
     has_written_of_eq g.W.Write.write_str_gives c.args.f.now (spaced_text (take i ns) ++ (32 ∷ decimal (get_or ns i 0))) (spaced_text (take (i + 1) ns)) c.write.new.self
     (one_more ns i c.loop-n-test.true)
     (has_written_append g.W.Write.write_str_gives c.args.f.now (spaced_text (take i ns)) c.loop-n.f (32 ∷ decimal (get_or ns i 0)) c.write.new.self old new)

@@ -8,7 +8,7 @@ pub returns-clause-writes : goal.returns-clause-writes
 returns-clause-writes g c plain ok =
     let page = c.args.self.now in
     let orders = c.deref.result.now in
-    let word = c.in_ok-write.ensures.shows plain (refl {a = true}) in
+    let word = c.in_ok-write.ensures.writes plain (refl {a = true}) in
     has_written_of_eq g.W.Write.write_str_gives c.args.f.now (book_text page ++ orders_text orders) (page_text page) c.listed.new.f
     (ap (λ (l : List Order). book_text page ++ orders_text l) c.deref.ensures.value)
     (has_written_append g.W.Write.write_str_gives c.args.f.now (book_text page) c.write.new.self (orders_text orders) c.listed.new.f word (c.listed.ensures word.plain ok))

@@ -1,9 +1,8 @@
 -- What a call leaves, part by part.
-use Rattle.std.proofs.Common.{◌≡◌, ℕ, List, [], ◌∷◌, ◌++◌, length, take, Option, sym, refl, ap, ◌∙◌, subst}
+use Rattle.std.proofs.Common.{◌≡◌, ℕ, List, [], ◌∷◌, ◌++◌, length, take, Option, sym, ap, ◌∙◌}
 use Rattle.std.proofs.lemmas.List.{take_at}
 use Rattle.rules.specs.declared.order.Order.{Order}
 use Rattle.rules.specs.declared.line.Line.{Line}
-use Rattle.rules.specs.declared.calls.Answer.{Answer}
 use Rattle.rules.specs.declared.calls.Answer.TheVariants.{Tried}
 use Rattle.rules.specs.Price.{volume, price, price_at}
 use Rattle.rules.specs.Machine.{Machine, with_orders, with_lines}

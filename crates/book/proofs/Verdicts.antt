@@ -1,20 +1,19 @@
 -- What the checks of a call tell: a refusal, or that each was passed.
-use Rattle.std.proofs.Common.{◌≡◌, ℕ, ◌%◌, ◌<◌, ◌≤◌, Bool, true, false, cond, not, ◌&&◌, ◌||◌, eqb, ltb, leb, List, [], ◌∷◌, ◌++◌, length, Some, None, Ok, Err, Option, Result, sym, refl, ap, ◌∙◌, subst, arith}
+use Rattle.std.proofs.Common.{◌≡◌, ℕ, ◌%◌, ◌<◌, ◌≤◌, Bool, true, false, cond, not, ◌&&◌, eqb, ltb, leb, List, [], ◌∷◌, ◌++◌, length, Some, None, Ok, Err, Option, Result, sym, refl, ap, ◌∙◌, subst, arith}
 use Rattle.std.proofs.lemmas.Bool.{leb-false, ltb-false, lt-ltb}
 use Rattle.std.proofs.lemmas.Bool.Decides.{nat_tests}
-use Rattle.rules.specs.declared.order.Kind.TheVariants.{Limit, OnOpen}
+use Rattle.rules.specs.declared.order.Kind.TheVariants.{Limit}
 use Rattle.rules.specs.declared.calls.Answer.{Answer}
 use Rattle.rules.specs.declared.calls.Answer.TheVariants.{Refused}
 use Rattle.rules.specs.declared.calls.LimitEntry.{LimitEntry}
 use Rattle.rules.specs.declared.calls.Trial.{Trial}
 use Rattle.rules.specs.declared.refusal.Refusal.{Refusal}
-use Rattle.rules.specs.declared.ladder.Ladder.{Ladder}
 use Rattle.rules.specs.Limits.{most_lots, most_orders, last_number}
-use Rattle.rules.specs.Ladders.{takes, step_at}
+use Rattle.rules.specs.Ladders.{step_at}
 use Rattle.rules.specs.Refusals.{Check, first}
-use Rattle.rules.specs.Checks.{outside, full, used_up, room_checks, limit_terms, trial_checks}
+use Rattle.rules.specs.Checks.{outside, limit_terms, trial_checks}
 use Rattle.rules.specs.Machine.{Machine}
-use Rattle.rules.specs.Steps.{Outcome, outcome, refused, checked}
+use Rattle.rules.specs.Steps.{Outcome, refused, checked}
 use Rattle.table.specs.Fits.{price_fits, entry_fits}
 use Rattle.matching.specs.Entries.{room_for}
 use Rattle.book.specs.Model.{Gives, verdict}

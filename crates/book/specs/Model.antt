@@ -1,12 +1,10 @@
 -- The machine that a book stands for, and what a call promises.
-use Rattle.std.specs.Prelude.{◌≡◌, ℕ, Some, None, Ok, Err, Option, Result}
+use Rattle.std.specs.Prelude.{◌≡◌, Some, None, Ok, Err, Option, Result}
 use Rattle.policy.specs.Fair.{Rule}
 use Rattle.rules.specs.declared.calls.Phase.{Phase}
 use Rattle.rules.specs.declared.calls.Phase.TheVariants.{PreOpen as pre-open, Open as in-session}
 use Rattle.rules.specs.declared.calls.Answer.{Answer}
-use Rattle.rules.specs.declared.calls.Answer.TheVariants.{Entered, Cancelled, Reduced, Dropped, Done, Tried, Refused}
-use Rattle.rules.specs.declared.calls.EntryAnswer.{EntryAnswer}
-use Rattle.rules.specs.declared.calls.TrialAnswer.{TrialAnswer}
+use Rattle.rules.specs.declared.calls.Answer.TheVariants.{Refused}
 use Rattle.rules.specs.declared.refusal.Refusal.{Refusal}
 use Rattle.rules.specs.Machine.{Rules, Machine}
 use Rattle.rules.specs.Steps.{Outcome}

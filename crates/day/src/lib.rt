@@ -1,4 +1,6 @@
 // A day of a book, used as it should be: an On-Open order before the opening, one opening, a market order after it.
+#![tactic(auto)]
+
 ghost use Rattle.std.specs.Prelude.{◌≡◌};
 
 use book::phases::PreOpen;

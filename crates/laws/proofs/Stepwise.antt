@@ -24,10 +24,9 @@ use Rattle.rules.specs.Price.{volume, price}
 use Rattle.rules.specs.Trades.{Step, ranked}
 use Rattle.rules.specs.Opening.{stage_one, cross, turned, limit_at, opened_at, opened}
 use Rattle.rules.specs.Session.{accepts, reach, enough, met, resting, Matched}
-use Rattle.rules.specs.Refusals.{first}
 use Rattle.rules.specs.Lines.{heir}
 use Rattle.rules.specs.Machine.{Rules, Machine}
-use Rattle.rules.specs.Steps.{Outcome, outcome, refused, wait, meet, limit_incoming, market_incoming, lapses, open_book, close_book, step}
+use Rattle.rules.specs.Steps.{Outcome, outcome, wait, meet, limit_incoming, market_incoming, lapses, open_book, close_book, step}
 use Rattle.rules.proofs.Filled.{is_self}
 use Rattle.rules.proofs.Openings.{start}
 use Rattle.rules.proofs.Sessions.{rest_both}

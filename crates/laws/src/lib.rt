@@ -1,4 +1,6 @@
 // The laws of every run of calls, proved because a contract names them.
+#![tactic(auto)]
+
 ghost use Rattle.laws.specs.Laws.{LawsOfEveryRun};
 
 // From a book as made, whatever calls it is sent: at an opening limit orders trade as much as any price would allow, and

@@ -1,5 +1,7 @@
 // How a book trades: the volume and the price of its opening, the trades with its levels, the opening, and an entry in
 // session.
+#![tactic(auto)]
+
 mod entry;
 mod level;
 mod opening;

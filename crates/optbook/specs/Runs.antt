@@ -1,5 +1,5 @@
 -- What a run does with a command.
-use Rattle.std.specs.Prelude.{◌≡◌, ℕ, List, [], IfOk, Some, None, Ok, Err, vec_items, Option, Result}
+use Rattle.std.specs.Prelude.{◌≡◌, List, [], IfOk, Some, None, Ok, vec_items, Option, Result}
 use Rattle.rules.specs.declared.tape.TapeLine.{TapeLine}
 use Rattle.std.specs.declared.alloc.AllocError.{AllocError}
 use Rattle.rules.specs.declared.calls.Answer as calls

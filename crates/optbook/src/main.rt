@@ -1,4 +1,6 @@
 // optbook: plays a script of calls, and answers each.
+#![tactic(auto)]
+
 mod answer;
 mod desk;
 mod ledger;

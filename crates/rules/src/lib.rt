@@ -1,4 +1,6 @@
 // The vocabulary of one option series, and the rules that contracts cite (specs/).
+#![tactic(auto)]
+
 pub mod calls;
 pub mod incoming;
 pub mod ladder;

@@ -1,4 +1,6 @@
 // The worked examples of docs/RULES.md, tried on the book: a line for each, its number and `same` or `differs`.
+#![tactic(auto)]
+
 mod books;
 mod entries;
 mod queues;

@@ -1,4 +1,6 @@
 // From the lines of a script to what they ask for.
+#![tactic(auto)]
+
 mod calls;
 pub mod command;
 pub mod fault;

@@ -1,4 +1,4 @@
-use Rattle.std.proofs.Common.{◌≡◌, ℕ, List, [], Option, refl, ap, ◌∙◌}
+use Rattle.std.proofs.Common.{◌≡◌, ℕ, List, [], Option, ap, ◌∙◌}
 use Rattle.rules.specs.declared.calls.Answer.TheVariants.{Dropped}
 use Rattle.rules.specs.declared.calls.Phase.{Phase}
 use Rattle.rules.specs.declared.line.Line.{Line}
@@ -6,8 +6,8 @@ use Rattle.rules.specs.declared.line.LineEvent.TheVariants.{GoesDown}
 use Rattle.rules.specs.Checks.{line_down_checks}
 use Rattle.rules.specs.Lines.{moved, heir}
 use Rattle.rules.specs.Machine.{with_lines}
-use Rattle.rules.specs.Steps.{Outcome, outcome, handed, dropped_lots}
-use Rattle.book.specs.Model.{machine, Gives, SamePolicies}
+use Rattle.rules.specs.Steps.{outcome, handed, dropped_lots}
+use Rattle.book.specs.Model.{machine}
 use Rattle.book.proofs.Verdicts.{taken_at}
 use Rattle.book.proofs.Changes.{but_lines}
 use Rattle.book.proofs.held.Held.line_down.Goals as goal

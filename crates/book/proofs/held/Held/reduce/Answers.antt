@@ -1,11 +1,11 @@
-use Rattle.std.proofs.Common.{◌≡◌, ◌-◌, [], refl}
+use Rattle.std.proofs.Common.{◌-◌, [], refl}
 use Rattle.std.proofs.lemmas.Result.{err_from_is_err_and}
 use Rattle.rules.specs.declared.calls.Answer.TheVariants.{Reduced}
 use Rattle.rules.specs.declared.calls.Phase.{Phase}
 use Rattle.rules.specs.Checks.{order_of, open_lots, id_checks, reduction_terms}
 use Rattle.rules.specs.Machine.{with_orders}
-use Rattle.rules.specs.Steps.{Outcome, outcome, reduced}
-use Rattle.book.specs.Model.{machine, Gives, SamePolicies}
+use Rattle.rules.specs.Steps.{outcome, reduced}
+use Rattle.book.specs.Model.{machine}
 use Rattle.book.proofs.Verdicts.{refused_then}
 use Rattle.book.proofs.held.Held.reduce.Goals as goal
 

@@ -1,4 +1,4 @@
-use Rattle.std.proofs.Common.{◌≡◌, [], refl, ap}
+use Rattle.std.proofs.Common.{refl, ap}
 use Rattle.std.proofs.lemmas.Result.{err_from_is_err_and}
 use Rattle.rules.specs.declared.calls.Answer.TheVariants.{Done}
 use Rattle.rules.specs.declared.calls.Phase.{Phase}
@@ -7,8 +7,8 @@ use Rattle.rules.specs.declared.line.LineEvent.TheVariants.{Names}
 use Rattle.rules.specs.Checks.{successor_checks}
 use Rattle.rules.specs.Lines.{moved}
 use Rattle.rules.specs.Machine.{with_lines}
-use Rattle.rules.specs.Steps.{Outcome, outcome}
-use Rattle.book.specs.Model.{machine, Gives, SamePolicies}
+use Rattle.rules.specs.Steps.{outcome}
+use Rattle.book.specs.Model.{machine}
 use Rattle.book.proofs.Verdicts.{refused_at, taken_at, passes_all, inside}
 use Rattle.book.proofs.held.Held.successor.Goals as goal
 

@@ -1,4 +1,4 @@
-use Rattle.std.proofs.Common.{◌≡◌, ◌-◌, ◌≤◌, length, None, sym, arith}
+use Rattle.std.proofs.Common.{◌-◌, None, sym, arith}
 use Rattle.std.proofs.lemmas.List.{get_or_past}
 use Rattle.rules.specs.declared.line.Line.TheVariants.{Up}
 use Rattle.table.proofs.lines.Lines.of.Goals as goal

@@ -1,5 +1,4 @@
 use Rattle.std.proofs.Common.{◌<◌, get_or, sym, ap, subst, arith}
-use Rattle.rules.specs.Trades.{less}
 use Rattle.table.proofs.Fit.{Fits, less_fits}
 use Rattle.table.proofs.Open.{no_order, open_fits, set_long, set_fits, reduced_open, lots_behind}
 use Rattle.table.proofs.table.Table.reduce.Goals as goal

@@ -1,12 +1,11 @@
-use Rattle.std.proofs.Common.{◌≡◌, [], Some, None, sym, refl, ap, subst}
+use Rattle.std.proofs.Common.{[], Some, refl, subst}
 use Rattle.std.proofs.lemmas.Result.{err_from_is_err_and}
 use Rattle.rules.specs.declared.order.Lifetime.{Lifetime}
-use Rattle.rules.specs.declared.incoming.Incoming.{Incoming}
 use Rattle.rules.specs.declared.calls.Phase.TheVariants.{Open}
 use Rattle.rules.specs.declared.calls.Answer.TheVariants.{Entered}
 use Rattle.rules.specs.Checks.{id_checks, limit_terms}
-use Rattle.rules.specs.Steps.{Outcome, meet, limit_incoming}
-use Rattle.book.specs.Model.{trading, rules_of, Gives, SamePolicies}
+use Rattle.rules.specs.Steps.{meet, limit_incoming}
+use Rattle.book.specs.Model.{trading, rules_of, Gives}
 use Rattle.book.proofs.Verdicts.{refused_first, refused_then, taken_then, limit_room, may_rest}
 use Rattle.book.proofs.phases.trading.Book+Trading+O+S.limit.Goals as goal
 

@@ -1,4 +1,4 @@
-use Rattle.std.proofs.Common.{◌≡◌, List, [], ◌∷◌, ◌++◌, sym, refl, ap}
+use Rattle.std.proofs.Common.{List, [], ◌∷◌, ◌++◌, refl, ap}
 use Rattle.std.proofs.lemmas.Result.{err_from_is_err_and}
 use Rattle.rules.specs.declared.order.Order.{Order}
 use Rattle.rules.specs.declared.calls.Answer.TheVariants.{Tried}
@@ -7,7 +7,7 @@ use Rattle.rules.specs.Price.{volume, price}
 use Rattle.rules.specs.Machine.{with_orders}
 use Rattle.rules.specs.Steps.{Outcome, outcome, tried_order}
 use Rattle.table.specs.Tables.{open_orders}
-use Rattle.book.specs.Model.{waiting, Gives, SamePolicies}
+use Rattle.book.specs.Model.{waiting}
 use Rattle.book.proofs.Verdicts.{refused_at, taken_at}
 use Rattle.book.proofs.Changes.{cut_off, tried_is}
 use Rattle.book.proofs.phases.tries.Book+Waiting+O+S.trial.Goals as goal

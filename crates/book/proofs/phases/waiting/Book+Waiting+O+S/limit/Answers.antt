@@ -1,10 +1,10 @@
-use Rattle.std.proofs.Common.{◌≡◌, [], sym, refl, rules}
+use Rattle.std.proofs.Common.{[], refl}
 use Rattle.std.proofs.lemmas.Result.{err_from_is_err_and}
 use Rattle.rules.specs.declared.calls.Phase.TheVariants.{PreOpen}
 use Rattle.rules.specs.declared.calls.Answer.TheVariants.{Entered}
 use Rattle.rules.specs.Checks.{id_checks, limit_terms}
 use Rattle.rules.specs.Steps.{limit_in}
-use Rattle.book.specs.Model.{waiting, rules_of, Gives, SamePolicies}
+use Rattle.book.specs.Model.{waiting, rules_of}
 use Rattle.book.proofs.Verdicts.{refused_first, refused_then, taken_then, limit_room}
 use Rattle.book.proofs.phases.waiting.Book+Waiting+O+S.limit.Goals as goal
 

@@ -1,9 +1,9 @@
-use Rattle.std.proofs.Common.{◌≡◌, [], sym, refl}
+use Rattle.std.proofs.Common.{[], refl}
 use Rattle.std.proofs.lemmas.Result.{err_from_is_err_and}
 use Rattle.rules.specs.declared.order.Kind.TheVariants.{OnOpen}
 use Rattle.rules.specs.Checks.{id_checks, on_open_terms}
 use Rattle.rules.specs.Steps.{Outcome, wait}
-use Rattle.book.specs.Model.{waiting, rules_of, Gives, SamePolicies}
+use Rattle.book.specs.Model.{waiting}
 use Rattle.book.proofs.Verdicts.{refused_first, refused_then}
 use Rattle.book.proofs.phases.waiting.Book+Waiting+O+S.on_open.Goals as goal
 

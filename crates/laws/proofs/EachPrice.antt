@@ -1,6 +1,6 @@
 -- On each tape as many lots are bought as sold at each price.
 use Rattle.std.proofs.Common.{◌≡◌, ℕ, ◌+◌, ◌-◌, min, Bool, true, false, cond, ◌&&◌, eqb, List, [], ◌∷◌, ◌++◌, map, Some, None, filter, Option, sym, refl, ap, ◌∙◌, subst, arith}
-use Rattle.std.specs.List.{AllByRecursion as All}
+use Rattle.std.specs.List.{AllByRecursion}
 use Rattle.std.proofs.lemmas.Bool.{cond_both, cond-true, cond-false}
 use Rattle.policy.specs.Fair.{Rule, Fairly}
 use Rattle.rules.specs.declared.order.Side.{Side}
@@ -29,7 +29,7 @@ use Rattle.laws.proofs.Ways.{seen, every_way}
 -- ---- lines at one price
 
 -- Where every line is at y, the lots at x are all or none.
-all_at : (s : Side) (x y : ℕ) (ls : List TapeLine) → All (λ l. l.price ≡ y) ls → lots_at_price s x ls ≡ cond (eqb x y) (side_lots s ls) 0
+all_at : (s : Side) (x y : ℕ) (ls : List TapeLine) → AllByRecursion (λ l. l.price ≡ y) ls → lots_at_price s x ls ≡ cond (eqb x y) (side_lots s ls) 0
 all_at s x y [] a = cond_both (eqb x y) 0 0 (λ (n : ℕ). 0 ≡ n) (λ _. refl) (λ _. refl)
 all_at s x y (l ∷ ls) a = go (is s l.side) (eqb x y) (ap (eqb x) a.0) (all_at s x y ls a.1)
   where
@@ -44,7 +44,7 @@ at_append s x [] ms = omega arith
 at_append s x (l ∷ ls) ms = omega (arith, at_append s x ls ms)
 
 -- Such lines are even at each price if they are in all.
-even_at : (x y : ℕ) (ls : List TapeLine) → All (λ l. l.price ≡ y) ls → side_lots Bid ls ≡ side_lots Offer ls → lots_at_price Bid x ls ≡ lots_at_price Offer x ls
+even_at : (x y : ℕ) (ls : List TapeLine) → AllByRecursion (λ l. l.price ≡ y) ls → side_lots Bid ls ≡ side_lots Offer ls → lots_at_price Bid x ls ≡ lots_at_price Offer x ls
 even_at x y ls a e = all_at Bid x y ls a ∙ ap (λ (n : ℕ). cond (eqb x y) n 0) e ∙ sym (all_at Offer x y ls a)
 
 -- ---- a session entry

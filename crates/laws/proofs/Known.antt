@@ -1,6 +1,6 @@
 -- What a history says of the open orders, and of numbers not yet given.
 use Rattle.std.proofs.Common.{◌≡◌, ℕ, ◌+◌, ◌<◌, ◌≤◌, Bool, true, false, cond, ◌&&◌, eqb, ltb, ◌⊎◌, List, [], ◌∷◌, ◌++◌, Some, None, Option, refl, ap, ◌∙◌, arith}
-use Rattle.std.specs.List.{AllByRecursion as All}
+use Rattle.std.specs.List.{AllByRecursion}
 use Rattle.std.proofs.lemmas.Bool.{ltb-true, lt-ltb, eq-eqb, ne_eqb, and_parts}
 use Rattle.rules.specs.declared.order.Side.{Side}
 use Rattle.rules.specs.declared.order.Kind.{Kind}
@@ -95,35 +95,35 @@ pub record Fine (es : List Event) (c : Call) (m : Machine) (o : Outcome) : Type 
 -- ---- numbers
 
 -- what holds of each, and what else holds of each
-pub all_both : {X : Type 0} (P Q : X → Type 0) (xs : List X) → All P xs → All Q xs → All (λ x. P x × Q x) xs
+pub all_both : {X : Type 0} (P Q : X → Type 0) (xs : List X) → AllByRecursion P xs → AllByRecursion Q xs → AllByRecursion (λ x. P x × Q x) xs
 all_both P Q [] a b = tt
 all_both P Q (x ∷ xs) a b = ((a.0, b.0), all_both P Q xs a.1 b.1)
 
 -- orders below a number
-pub below_each : (n : ℕ) (os : List Order) (P Q : Order → Type 0) → below n (numbers os) ≡ true → ((o : Order) → o.number < n → P o → Q o) → All P os → All Q os
+pub below_each : (n : ℕ) (os : List Order) (P Q : Order → Type 0) → below n (numbers os) ≡ true → ((o : Order) → o.number < n → P o → Q o) → AllByRecursion P os → AllByRecursion Q os
 below_each n [] P Q b h a = tt
 below_each n (o ∷ os) P Q b h a =
     let r = and_parts (ltb o.number n) (below n (numbers os)) b in
     (h o (ltb-true o.number n r.0) a.0, below_each n os P Q r.1 h a.1)
 
 -- and above one
-above_each : (n : ℕ) (os : List Order) (P Q : Order → Type 0) → above n (numbers os) ≡ true → ((o : Order) → n < o.number → P o → Q o) → All P os → All Q os
+above_each : (n : ℕ) (os : List Order) (P Q : Order → Type 0) → above n (numbers os) ≡ true → ((o : Order) → n < o.number → P o → Q o) → AllByRecursion P os → AllByRecursion Q os
 above_each n [] P Q b h a = tt
 above_each n (o ∷ os) P Q b h a =
     let r = and_parts (ltb n o.number) (above n (numbers os)) b in
     (h o (ltb-true n o.number r.0) a.0, above_each n os P Q r.1 h a.1)
 
 -- a number that none of them has
-held_apart : (n : ℕ) (t : Order → Bool) (os : List Order) → All (λ o. n ≡ o.number → ⊥) os → held (λ o. eqb n o.number && t o) os ≡ 0
+held_apart : (n : ℕ) (t : Order → Bool) (os : List Order) → AllByRecursion (λ o. n ≡ o.number → ⊥) os → held (λ o. eqb n o.number && t o) os ≡ 0
 held_apart n t [] a = refl
 held_apart n t (o ∷ os) a = rw (ne_eqb n o.number a.0) (omega (arith, held_apart n t os a.1))
 
 -- where numbers rise each order is the only one of its number
-held_own : (t : Order → Bool) (os : List Order) → rising (numbers os) ≡ true → All (λ o. held (λ z. eqb o.number z.number && t z) os ≡ cond (t o) o.lots 0) os
+held_own : (t : Order → Bool) (os : List Order) → rising (numbers os) ≡ true → AllByRecursion (λ o. held (λ z. eqb o.number z.number && t z) os ≡ cond (t o) o.lots 0) os
 held_own t [] r = tt
 held_own t (o ∷ os) r =
     let p = and_parts (above o.number (numbers os)) (rising (numbers os)) r in
-    let apart : All (λ z. o.number ≡ z.number → ⊥) os = above_each o.number os (λ z. Unit {0}) (λ z. o.number ≡ z.number → ⊥) p.0 (λ z l _ e. omega arith) (all_any os) in (
+    let apart : AllByRecursion (λ z. o.number ≡ z.number → ⊥) os = above_each o.number os (λ z. Unit {0}) (λ z. o.number ≡ z.number → ⊥) p.0 (λ z l _ e. omega arith) (all_any os) in (
       (rw (eq-eqb o.number o.number refl) (omega (arith, held_apart o.number t os apart))),
       above_each o.number os (λ z. held (λ y. eqb z.number y.number && t y) os ≡ cond (t z) z.lots 0) (λ z. held (λ y. eqb z.number y.number && t y) (o ∷ os) ≡ cond (t z) z.lots 0) p.0
           (λ z l h. rw (ne_eqb z.number o.number (λ e. let never : ⊥ = omega arith in never)) (omega arith)) (held_own t os p.1),
@@ -134,10 +134,10 @@ lots_test true n h = lt-ltb 0 n h
 lots_test false n h = refl
 
 -- an open order waits where it is On-Open
-pub waits_is : (os : List Order) → rising (numbers os) ≡ true → Sound os → All (λ o. waits o.number os ≡ on_open o) os
+pub waits_is : (os : List Order) → rising (numbers os) ≡ true → Sound os → AllByRecursion (λ o. waits o.number os ≡ on_open o) os
 waits_is os r sound = go os (held_own on_open os r) sound
   where
-    go : (xs : List Order) → All (λ o. held (λ z. eqb o.number z.number && on_open z) os ≡ cond (on_open o) o.lots 0) xs → Sound xs → All (λ o. waits o.number os ≡ on_open o) xs
+    go : (xs : List Order) → AllByRecursion (λ o. held (λ z. eqb o.number z.number && on_open z) os ≡ cond (on_open o) o.lots 0) xs → Sound xs → AllByRecursion (λ o. waits o.number os ≡ on_open o) xs
     go [] a b = tt
     go (x ∷ xs) a b = (ap (ltb 0) a.0 ∙ lots_test (on_open x) x.lots b.0.0, go xs a.1 b.1)
 

@@ -1,6 +1,6 @@
 -- Where the lines of a tape come from: each is that of an order of the level traded with, or the entry's own.
 use Rattle.std.proofs.Common.{◌≡◌, ℕ, ◌-◌, ◌<◌, ◌≤◌, min, Bool, cond, not, ◌&&◌, eqb, ltb, List, [], ◌∷◌, map, Some, None, filter, Option, sym, subst, arith}
-use Rattle.std.specs.List.{AllByRecursion as All}
+use Rattle.std.specs.List.{AllByRecursion}
 use Rattle.std.proofs.lemmas.Bool.{cond_both, ltb-true}
 use Rattle.std.proofs.ByRecursion.{All-append, all_kept_by}
 use Rattle.policy.specs.Fair.{total, Rule, Fairly}
@@ -25,7 +25,7 @@ use Rattle.rules.proofs.Served.{serve_book, serve_le}
 
 -- Every order is of a number, a side and a kind of which P holds.
 abbrev pub Everywhere : (ℕ → Side → Kind → Type 0) → List Order → Type 0
-Everywhere P os = All (λ o. P o.number o.side o.kind) os
+Everywhere P os = AllByRecursion (λ o. P o.number o.side o.kind) os
 
 module _ (P : ℕ → Side → Kind → Type 0) where
   -- shares taken off
@@ -90,10 +90,10 @@ each_turned P P' p as_is turns (o ∷ os) a = (go o.kind a.0, each_turned P P' p
 
 -- Every line is of a number, a side and a price of which Q holds.
 abbrev pub Lined : (ℕ → Side → ℕ → Type 0) → List TapeLine → Type 0
-Lined Q ls = All (λ l. Q l.number l.side l.price) ls
+Lined Q ls = AllByRecursion (λ l. Q l.number l.side l.price) ls
 
 -- nothing is asked of any
-pub all_any : {X : Type 0} (xs : List X) → All (λ x. Unit {0}) xs
+pub all_any : {X : Type 0} (xs : List X) → AllByRecursion (λ x. Unit {0}) xs
 all_any [] = tt
 all_any (x ∷ xs) = (tt, all_any xs)
 
@@ -105,9 +105,9 @@ OwnLine Q (Entry number) s OnOpen = Unit {0}
 
 module _ (P : ℕ → Side → Kind → Type 0) (Q : ℕ → Side → ℕ → Type 0) where
   -- a level's orders are of its side and kind
-  level_lines : (C : Type 0) (s : Side) (k : Kind) (p : ℕ) → (C → (n : ℕ) → P n s k → Q n s p) → (os : List Order) → Everywhere P os → All (λ o. C → Q o.number o.side p) (level s k os)
+  level_lines : (C : Type 0) (s : Side) (k : Kind) (p : ℕ) → (C → (n : ℕ) → P n s k → Q n s p) → (os : List Order) → Everywhere P os → AllByRecursion (λ o. C → Q o.number o.side p) (level s k os)
   level_lines C s k p h [] a = tt
-  level_lines C s k p h (o ∷ os) a = cond_both (at s k o) (o ∷ level s k os) (level s k os) (All (λ (z : Order). C → Q z.number z.side p))
+  level_lines C s k p h (o ∷ os) a = cond_both (at s k o) (o ∷ level s k os) (level s k os) (AllByRecursion (λ (z : Order). C → Q z.number z.side p))
       (λ e.
       let is-s : o.side ≡ s = at_side s o.side k o.kind e in
       let is-k : o.kind ≡ k = at_kind s o.side k o.kind e in
@@ -119,7 +119,7 @@ module _ (P : ℕ → Side → Kind → Type 0) (Q : ℕ → Side → ℕ → Ty
   of_line number s p n h = cond_both (ltb 0 n) (record { number = number; side = s; price = p; lots = n } ∷ []) [] (Lined Q) (λ e. (h (ltb-true 0 n e), tt)) (λ _. tt)
 
   -- and where it has one its share is not nothing
-  of_lines : (C : Type 0) (p : ℕ) (os : List Order) (gs : List ℕ) → (0 < total gs → C) → All (λ o. C → Q o.number o.side p) os → Lined Q (lines p os gs)
+  of_lines : (C : Type 0) (p : ℕ) (os : List Order) (gs : List ℕ) → (0 < total gs → C) → AllByRecursion (λ o. C → Q o.number o.side p) os → Lined Q (lines p os gs)
   of_lines C p [] gs c a = tt
   of_lines C p (o ∷ os) [] c a = tt
   of_lines C p (o ∷ os) (g ∷ gs) c a = All-append (λ l. Q l.number l.side l.price) (line o.number o.side p g) (lines p os gs)
@@ -146,7 +146,7 @@ module _ (P : ℕ → Side → Kind → Type 0) (Q : ℕ → Side → ℕ → Ty
       (of_written terms s v k m.orders gs (shares_sum rule fair s v k m.orders b) a (λ pos. h (omega arith)))
 
   -- levels served in turn write lines where they have lots less, M at the start and in the end
-  pub serve_lines : (rule : Rule) → Fairly rule → (terms : Terms) (s : Side) (A : ℕ → Type 0) (M : List Order) (v : ℕ) (xs : List ℕ) (m : Step) → Book m.orders → Everywhere P m.orders → All A xs →
+  pub serve_lines : (rule : Rule) → Fairly rule → (terms : Terms) (s : Side) (A : ℕ → Type 0) (M : List Order) (v : ℕ) (xs : List ℕ) (m : Step) → Book m.orders → Everywhere P m.orders → AllByRecursion A xs →
       ((x : ℕ) → held (at s (Limit x)) m.orders ≤ held (at s (Limit x)) M) →
       ((x : ℕ) → A x → held (at s (Limit x)) (serve rule terms s v (map Limit xs) m).orders < held (at s (Limit x)) M → ((n : ℕ) → P n s (Limit x) → Q n s (line_price terms (Limit x))) × OwnLine Q terms s (Limit x)) →
       Lined Q m.tape → Lined Q (serve rule terms s v (map Limit xs) m).tape

@@ -1,6 +1,6 @@
 -- An opening trades as much as a price allows.
 use Rattle.std.proofs.Common.{◌≡◌, ℕ, suc, ◌≤◌, List, Some, None, Option, sym, refl, ap, ◌∙◌, subst, inl, inr, arith}
-use Rattle.std.specs.List.{AllByRecursion as All}
+use Rattle.std.specs.List.{AllByRecursion}
 use Rattle.std.proofs.lemmas.Bool.{cases_lt}
 use Rattle.std.proofs.ByRecursion.{All-weaker}
 use Rattle.policy.specs.Fair.{Rule, Fairly}
@@ -49,8 +49,8 @@ none_trades : (rule : Rule) (os : List Order) (v : ℕ) (p : Option ℕ) → p �
 none_trades rule os v p is = ap (λ (o : Option ℕ). (opened_at rule os v o).total) is
 
 -- Every line is at the price; without one there is none.
-lines_at : (rule : Rule) (os : List Order) (o : Option ℕ) → price os ≡ o → ((p : ℕ) → price os ≡ Some p → All (λ l. l.price ≡ p) (opened rule os).tape) → All (λ l. price os ≡ Some l.price) (opened rule os).tape
-lines_at rule os None e keeps = subst (λ (p : Option ℕ). All (λ (l : TapeLine). price os ≡ Some l.price) (opened_at rule os (volume os) p).tape) (sym e) tt
+lines_at : (rule : Rule) (os : List Order) (o : Option ℕ) → price os ≡ o → ((p : ℕ) → price os ≡ Some p → AllByRecursion (λ l. l.price ≡ p) (opened rule os).tape) → AllByRecursion (λ l. price os ≡ Some l.price) (opened rule os).tape
+lines_at rule os None e keeps = subst (λ (p : Option ℕ). AllByRecursion (λ (l : TapeLine). price os ≡ Some l.price) (opened_at rule os (volume os) p).tape) (sym e) tt
 lines_at rule os (Some p) e keeps = All-weaker (λ (l : TapeLine). l.price ≡ p) (λ l. price os ≡ Some l.price) (λ l h. e ∙ ap Some (sym h)) (opened rule os).tape (keeps p e)
 
 -- What an opening answers.

@@ -1,7 +1,7 @@
 -- The laws of every run, for every two policies that keep a policy's meaning. Each is a law of one call more after any
 -- others: of the events es before it, and of its own event e.
 use Rattle.std.specs.Prelude.{◌≡◌, ℕ, ◌+◌, ◌<◌, ◌≤◌, min, Bool, true, false, ◌&&◌, ◌||◌, ◌⊎◌, List, [], ◌∷◌, ◌++◌, Some, None, Option, ◌==◌}
-use Rattle.std.specs.List.{AllByRecursion as All}
+use Rattle.std.specs.List.{AllByRecursion}
 use Rattle.policy.specs.Fair.{Fairly}
 use Rattle.rules.specs.declared.order.Side.{Side}
 use Rattle.rules.specs.declared.order.Side.TheVariants.{Bid, Offer}
@@ -49,7 +49,7 @@ pub record LimitOrdersFirst (os : List Order) (tape : List TapeLine) (v : ℕ) :
   pub first : List TapeLine
   pub rest : List TapeLine
   pub splits : tape ≡ first ++ rest
-  pub of_limits : All (λ l. line_of_limit os l ≡ true) first
+  pub of_limits : AllByRecursion (λ l. line_of_limit os l ≡ true) first
   pub lots : (s : Side) → side_lots s first ≡ v
 
 -- The opening of the orders os, with its tape and its answer. Limit orders trade with each other as much as any price
@@ -61,7 +61,7 @@ pub record OpeningLaws (os : List Order) (tape : List TapeLine) (a : OpeningAnsw
   pub attained : (q : ℕ) × (min (willing Bid os q) (willing Offer os q) ≡ a.volume)
   pub limit_orders_first : LimitOrdersFirst os tape a.volume
   pub the_price : a.price ≡ price os
-  pub at_the_price : All (λ l. a.price ≡ Some l.price) tape
+  pub at_the_price : AllByRecursion (λ l. a.price ≡ Some l.price) tape
   pub total : (s : Side) → side_lots s tape ≡ a.total
   pub in_all : (p : ℕ) → a.price ≡ Some p → a.total ≡ min (willing_in_all Bid os p) (willing_in_all Offer os p)
   pub without_price : a.price ≡ None → ((all_of Bid os ≡ 0) ⊎ (all_of Offer os ≡ 0)) × (a.total ≡ 0)
@@ -135,16 +135,16 @@ pub record Lawful (es : List Event) (e : Event) : Type 0 where
   -- no book in session is crossed
   pub uncrossed : e.after.phase ≡ Open → Uncrossed e.after.orders
   -- no line is beyond its order's limit
-  pub limits : All (λ l. (q : ℕ) → limit_after l.number (es ++ e ∷ []) ≡ Some q → beyond l.side q l.price ≡ false) (tape_of e)
+  pub limits : AllByRecursion (λ l. (q : ℕ) → limit_after l.number (es ++ e ∷ []) ≡ Some q → beyond l.side q l.price ≡ false) (tape_of e)
   -- no order with a price trades in a call that leaves one of its side with a better price open
-  pub precedence : All (λ l. (q : ℕ) → limit_after l.number (es ++ e ∷ []) ≡ Some q → NoneBetter l.side q e.after.orders) (tape_of e)
+  pub precedence : AllByRecursion (λ l. (q : ℕ) → limit_after l.number (es ++ e ∷ []) ≡ Some q → NoneBetter l.side q e.after.orders) (tape_of e)
   -- of each order the accepted lots are those traded, withdrawn and open
   pub ledger : (n : ℕ) → sum (lots_accepted n) (es ++ e ∷ []) ≡ sum (lots_traded n) (es ++ e ∷ []) + sum (lots_withdrawn n) (es ++ e ∷ []) + lots_open n e.after.orders
   -- on each tape as many lots are bought as sold: in all, and at each price
   pub tapes : side_lots Bid (tape_of e) ≡ side_lots Offer (tape_of e)
   pub at_each_price : (x : ℕ) → lots_at_price Bid x (tape_of e) ≡ lots_at_price Offer x (tape_of e)
   -- in session a line is the entry's own, or at the limit of its own order
-  pub resting_price : e.before.phase ≡ Open → All (λ l. (given l.number e ≡ 1) ⊎ (limit_after l.number (es ++ e ∷ []) ≡ Some l.price)) (tape_of e)
+  pub resting_price : e.before.phase ≡ Open → AllByRecursion (λ l. (given l.number e ≡ 1) ⊎ (limit_after l.number (es ++ e ∷ []) ≡ Some l.price)) (tape_of e)
   -- an entry taken before the opening waits, and one taken in session trades as it should
   pub waiting_entry : (a : EntryAnswer) → e.before.phase ≡ PreOpen → e.answer ≡ Entered a → Waits e a
   pub limit_entry : (x : LimitEntry) (a : EntryAnswer) → e.call ≡ EnterLimit x → e.before.phase ≡ Open → e.answer ≡ Entered a → EntryLaws e a x.side (Some x.price) x.lots x.condition
@@ -152,8 +152,8 @@ pub record Lawful (es : List Event) (e : Event) : Type 0 where
   -- no number is given to two entries; each line is that of an entry of its side, and each open order has its entry's side
   -- and its limit as price
   pub given_once : (n : ℕ) → sum (given n) (es ++ e ∷ []) ≤ 1
-  pub sides : All (λ l. sum (given_on l.side l.number) (es ++ e ∷ []) ≡ 1) (tape_of e)
-  pub as_entered : All (AsEntered (es ++ e ∷ [])) e.after.orders
+  pub sides : AllByRecursion (λ l. sum (given_on l.side l.number) (es ++ e ∷ []) ≡ 1) (tape_of e)
+  pub as_entered : AllByRecursion (AsEntered (es ++ e ∷ [])) e.after.orders
   -- a phase takes only the calls that it offers; an opening and a close move the book on, and no close is refused
   pub offered : was_taken e.answer ≡ true → offers e.before.phase e.call ≡ true
   pub moves : was_taken e.answer ≡ true → e.after.phase ≡ next_phase e.before.phase e.call

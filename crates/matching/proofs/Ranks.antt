@@ -1,6 +1,6 @@
 -- Prices in order: the first is the best, and a list in order is known by its members.
 use Rattle.std.proofs.Common.{◌≡◌, ℕ, ◌<◌, Bool, true, cond, eqb, ◌⊎◌, List, [], ◌∷◌, Some, None, filter, Option, sym, refl, ap, ◌∙◌, subst, inl, inr, arith}
-use Rattle.std.specs.List.{AllByRecursion as All}
+use Rattle.std.specs.List.{AllByRecursion}
 use Rattle.std.proofs.lemmas.Bool.{cond_both}
 use Rattle.std.proofs.lemmas.Bool.Decides.{nat_tests}
 use Rattle.rules.specs.declared.order.Side.{Side}
@@ -75,7 +75,7 @@ in_best_first : (s : Side) (xs : List ℕ) (z : ℕ) → In z (best_first s xs) 
 in_best_first s [] z i = i
 in_best_first s (x ∷ xs) z i = elim (in_into s x z (best_first s xs) i) [ inl e ↦ inl e | inr j ↦ inr (in_best_first s xs z j) ]
 
-all_in : (P : ℕ → Type 0) (xs : List ℕ) (z : ℕ) → All P xs → In z xs → P z
+all_in : (P : ℕ → Type 0) (xs : List ℕ) (z : ℕ) → AllByRecursion P xs → In z xs → P z
 all_in P [] z a i = absurd i
 all_in P (x ∷ xs) z a i = elim i [ inl e ↦ subst P (sym e) a.0 | inr j ↦ all_in P xs z a.1 j ]
 

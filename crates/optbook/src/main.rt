@@ -16,6 +16,7 @@ use play::{Summary, play};
 use std::env;
 use std::fs::File;
 use std::io::BufReader;
+use std::process::ExitCode;
 
 const HELP: &str = "\
 optbook plays a script of calls and answers each.
@@ -57,12 +58,15 @@ the summary. docs/FORMAT.md has the whole format.
   summary calls 1 taken 1 refused 0 not-understood 0
 ";
 
-fn main(rt: HostRuntime) -> anyhow::Result<()> {
-    let result = start(&rt);
-    if let Err(error) = &result {
-        eprintln!(rt; "optbook: {error}")?;
+fn main(rt: HostRuntime) -> ExitCode {
+    match start(&rt) {
+        Ok(()) => ExitCode::SUCCESS,
+        Err(error) => {
+            // Where standard error cannot be written either, the status still tells.
+            let _ = eprintln!(rt; "optbook: {error}");
+            ExitCode::FAILURE
+        }
     }
-    result
 }
 
 fn start(rt: &HostRuntime) -> anyhow::Result<()> {

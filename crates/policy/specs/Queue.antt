@@ -1,6 +1,6 @@
 -- A queue: the open lots at one level, earliest entry first. Assumes nothing.
 use Rattle.std.specs.Prelude.{ℕ, ◌≤◌, Bool, true, ◌&&◌, List, [], ◌∷◌, length, nat_le}
-use Rattle.std.specs.List.{AllByRecursion as All}
+use Rattle.std.specs.List.{AllByRecursion}
 
 abbrev pub most_places : ℕ
 most_places = 256
@@ -10,7 +10,7 @@ most_lots = 9999
 
 pub record Queue (queue : List ℕ) : Type 0 where
   pub few : length queue ≤ most_places
-  pub small : All (λ place. place ≤ most_lots) queue
+  pub small : AllByRecursion (λ place. place ≤ most_lots) queue
 
 -- The same as a test.
 abbrev pub small_places : List ℕ → Bool

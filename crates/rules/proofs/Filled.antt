@@ -1,6 +1,6 @@
 -- What a level's fill leaves, and that it loses no lot.
 use Rattle.std.proofs.Common.{◌≡◌, ℕ, suc, ◌+◌, ◌-◌, ◌≤◌, min, Bool, true, false, cond, ◌&&◌, ltb, List, [], ◌∷◌, ◌++◌, map, length, filter, sym, refl, ap, ◌∙◌, arith}
-use Rattle.std.specs.List.{AllByRecursion as All}
+use Rattle.std.specs.List.{AllByRecursion}
 use Rattle.std.proofs.lemmas.List.{append-nil}
 use Rattle.std.proofs.lemmas.Bool.{cond_both, cond-true, cond-false, ltb-true, ltb-false, eqb-true, lt-ltb, le-ltb, eq-eqb}
 use Rattle.std.proofs.ByRecursion.{kept_by_passes, All-weaker, all_kept_by, All-append}
@@ -139,7 +139,7 @@ own_side (Opening p) s n = refl
 own_side (Entry number) Bid n = refl
 own_side (Entry number) Offer n = refl
 
-shared_alike : (t : Order → Bool) (c : Bool) (os : List Order) (gs : List ℕ) → All (λ o. t o ≡ c) os → Within (map (λ o. o.lots) os) gs → shared t os gs ≡ cond c (total gs) 0
+shared_alike : (t : Order → Bool) (c : Bool) (os : List Order) (gs : List ℕ) → AllByRecursion (λ o. t o ≡ c) os → Within (map (λ o. o.lots) os) gs → shared t os gs ≡ cond c (total gs) 0
 shared_alike t true [] [] a u = refl
 shared_alike t false [] [] a u = refl
 shared_alike t c [] (g ∷ gs) a u = absurd u
@@ -147,7 +147,7 @@ shared_alike t c (o ∷ os) [] a u = absurd u
 shared_alike t true (o ∷ os) (g ∷ gs) a u = rw a.0 (omega (arith, shared_alike t true os gs a.1 u.1))
 shared_alike t false (o ∷ os) (g ∷ gs) a u = rw a.0 (omega (arith, shared_alike t false os gs a.1 u.1))
 
-level_alike : (T : Side → Kind → Bool) (s : Side) (k : Kind) (os : List Order) → All (λ o. T o.side o.kind ≡ T s k) (level s k os)
+level_alike : (T : Side → Kind → Bool) (s : Side) (k : Kind) (os : List Order) → AllByRecursion (λ o. T o.side o.kind ≡ T s k) (level s k os)
 level_alike T s k os = All-weaker (λ o. at s k o ≡ true) (λ o. T o.side o.kind ≡ T s k)
     (λ o e. ap (λ (x : Side). T x o.kind) (at_side s o.side k o.kind e) ∙ ap (λ (x : Kind). T s x) (at_kind s o.side k o.kind e))
     (level s k os) (kept_by_passes (at s k) os)
@@ -161,7 +161,7 @@ queue_total s k (o ∷ os) = cond_both (at s k o) (o ∷ level s k os) (level s 
 -- ---- bounds
 
 abbrev Loose : List Order → Type 0
-Loose os = All (λ o. (o.lots ≤ most_lots) × InRange o.kind) os
+Loose os = AllByRecursion (λ o. (o.lots ≤ most_lots) × InRange o.kind) os
 
 loose : (os : List Order) → Sound os → Loose os
 loose os a = All-weaker (λ o. (1 ≤ o.lots) × (o.lots ≤ most_lots) × InRange o.kind) (λ o. (o.lots ≤ most_lots) × InRange o.kind) (λ o h. (h.1, h.2)) os a
@@ -200,7 +200,7 @@ queue_length : (os : List Order) → length (map (λ (o : Order). o.lots) os) �
 queue_length [] = refl
 queue_length (o ∷ os) = ap suc (queue_length os)
 
-queue_small : (os : List Order) → Sound os → All (λ place. place ≤ most_lots) (map (λ (o : Order). o.lots) os)
+queue_small : (os : List Order) → Sound os → AllByRecursion (λ place. place ≤ most_lots) (map (λ (o : Order). o.lots) os)
 queue_small [] a = tt
 queue_small (o ∷ os) a = (a.0.1, queue_small os a.1)
 
@@ -288,20 +288,20 @@ line_price (Entry number) (Limit x) = x
 line_price (Entry number) OnOpen = 0
 
 module _ (P : ℕ → Type 0) where
-  line_at : (number : ℕ) (s : Side) (p n : ℕ) → P p → All (λ l. P l.price) (line number s p n)
-  line_at number s p n h = cond_both (ltb 0 n) (record { number = number; side = s; price = p; lots = n } ∷ []) [] (All (λ l. P l.price)) (λ _. (h, tt)) (λ _. tt)
+  line_at : (number : ℕ) (s : Side) (p n : ℕ) → P p → AllByRecursion (λ l. P l.price) (line number s p n)
+  line_at number s p n h = cond_both (ltb 0 n) (record { number = number; side = s; price = p; lots = n } ∷ []) [] (AllByRecursion (λ l. P l.price)) (λ _. (h, tt)) (λ _. tt)
 
-  lines_at : (p : ℕ) (os : List Order) (gs : List ℕ) → P p → All (λ l. P l.price) (lines p os gs)
+  lines_at : (p : ℕ) (os : List Order) (gs : List ℕ) → P p → AllByRecursion (λ l. P l.price) (lines p os gs)
   lines_at p [] gs h = tt
   lines_at p (o ∷ os) [] h = tt
   lines_at p (o ∷ os) (g ∷ gs) h = All-append (λ l. P l.price) (line o.number o.side p g) (lines p os gs) (line_at o.number o.side p g h) (lines_at p os gs h)
 
-  written_at : (terms : Terms) (s : Side) (v : ℕ) (k : Kind) (os : List Order) (gs : List ℕ) → P (line_price terms k) → All (λ l. P l.price) (written terms s v k os gs)
+  written_at : (terms : Terms) (s : Side) (v : ℕ) (k : Kind) (os : List Order) (gs : List ℕ) → P (line_price terms k) → AllByRecursion (λ l. P l.price) (written terms s v k os gs)
   written_at (Opening p) s v k os gs h = lines_at p (level s k os) gs h
   written_at (Entry number) s v (Limit x) os gs h = All-append (λ l. P l.price) (lines x (level s (Limit x) os) gs) (line number (other s) x (min v (held (at s (Limit x)) os))) (lines_at x (level s (Limit x) os) gs h) (line_at number (other s) x (min v (held (at s (Limit x)) os)) h)
   written_at (Entry number) s v OnOpen os gs h = tt
 
-  pub fill_price : (rule : Rule) (terms : Terms) (s : Side) (v : ℕ) (k : Kind) (m : Step) → P (line_price terms k) → All (λ l. P l.price) m.tape → All (λ l. P l.price) (fill rule terms s v k m).tape
+  pub fill_price : (rule : Rule) (terms : Terms) (s : Side) (v : ℕ) (k : Kind) (m : Step) → P (line_price terms k) → AllByRecursion (λ l. P l.price) m.tape → AllByRecursion (λ l. P l.price) (fill rule terms s v k m).tape
   fill_price rule terms s v k m h a =
       let gs : List ℕ = shares rule (queue s k m.orders) v in
       All-append (λ l. P l.price) m.tape (written terms s v k m.orders gs) a (written_at terms s v k m.orders gs h)
@@ -313,19 +313,19 @@ pub trades_out : (rule : Rule) (s : Side) (v : ℕ) (k : Kind) (os : List Order)
 trades_out rule s v k os h = shares_all rule (queue s k os) v (omega (arith, queue_total s k os))
 
 -- no lot left to trade: nothing changes
-nought : (gs : List ℕ) → total gs ≡ 0 → All (λ g. g ≡ 0) gs
+nought : (gs : List ℕ) → total gs ≡ 0 → AllByRecursion (λ g. g ≡ 0) gs
 nought [] e = tt
 nought (g ∷ gs) e = (omega arith, nought gs (omega arith))
 
 line_none : (number : ℕ) (s : Side) (p n : ℕ) → n ≡ 0 → line number s p n ≡ []
 line_none number s p n e = cond-false (ltb 0 n) (record { number = number; side = s; price = p; lots = n } ∷ []) [] (le-ltb 0 n (omega arith))
 
-lines_none : (p : ℕ) (os : List Order) (gs : List ℕ) → All (λ g. g ≡ 0) gs → lines p os gs ≡ []
+lines_none : (p : ℕ) (os : List Order) (gs : List ℕ) → AllByRecursion (λ g. g ≡ 0) gs → lines p os gs ≡ []
 lines_none p [] gs a = refl
 lines_none p (o ∷ os) [] a = refl
 lines_none p (o ∷ os) (g ∷ gs) a = let e = line_none o.number o.side p g a.0 in let f = lines_none p os gs a.1 in cc
 
-written_none : (terms : Terms) (s : Side) (v : ℕ) (k : Kind) (os : List Order) (gs : List ℕ) → v ≡ 0 → All (λ g. g ≡ 0) gs → written terms s v k os gs ≡ []
+written_none : (terms : Terms) (s : Side) (v : ℕ) (k : Kind) (os : List Order) (gs : List ℕ) → v ≡ 0 → AllByRecursion (λ g. g ≡ 0) gs → written terms s v k os gs ≡ []
 written_none (Opening p) s v k os gs z a = lines_none p (level s k os) gs a
 written_none (Entry number) s v (Limit x) os gs z a =
     let e = lines_none x (level s (Limit x) os) gs a in
@@ -336,7 +336,7 @@ written_none (Entry number) s v OnOpen os gs z a = refl
 less_none : (o : Order) (g : ℕ) → g ≡ 0 → less o g ≡ o
 less_none o g e = ap (λ (n : ℕ). record { number = o.number; id = o.id; side = o.side; kind = o.kind; lots = n; lifetime = o.lifetime }) (omega arith)
 
-taken_none : (s : Side) (k : Kind) (gs : List ℕ) (os : List Order) → All (λ g. g ≡ 0) gs → taken s k gs os ≡ os
+taken_none : (s : Side) (k : Kind) (gs : List ℕ) (os : List Order) → AllByRecursion (λ g. g ≡ 0) gs → taken s k gs os ≡ os
 taken_none s k gs [] a = refl
 taken_none s k [] (o ∷ os) a = refl
 taken_none s k (g ∷ gs) (o ∷ os) a = cond_both (at s k o) (less o g ∷ taken s k gs os) (o ∷ taken s k (g ∷ gs) os) (λ z. z ≡ o ∷ os)

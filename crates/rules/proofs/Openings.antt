@@ -1,6 +1,6 @@
 -- What every opening by a fair rule keeps.
 use Rattle.std.proofs.Common.{◌≡◌, ℕ, ◌+◌, ◌-◌, ◌<◌, ◌≤◌, min, Bool, true, false, cond, not, ◌&&◌, eqb, ltb, leb, List, [], ◌∷◌, Some, None, filter, Option, sym, refl, ap, ◌∙◌, subst, inl, inr, arith}
-use Rattle.std.specs.List.{AllByRecursion as All}
+use Rattle.std.specs.List.{AllByRecursion}
 use Rattle.std.proofs.lemmas.Bool.{cases_lt, cases_Bool, eqb-true, le-ltb, eq-eqb}
 use Rattle.std.proofs.lemmas.Bool.Decides.{nat_tests}
 use Rattle.policy.specs.Fair.{Rule, Fairly}
@@ -65,7 +65,7 @@ pub record OpeningKeeps (rule : Rule) (os : List Order) : Type 0 where
   -- all that is bid at p trades with all that is offered at p
   pub total_is : (p : ℕ) → price os ≡ Some p → (opened rule os).total ≡ min (demand os p + held (at Bid OnOpen) os) (supply os p + held (at Offer OnOpen) os)
   -- every line is at p
-  pub at_price : (p : ℕ) → price os ≡ Some p → All (λ l. l.price ≡ p) (opened rule os).tape
+  pub at_price : (p : ℕ) → price os ≡ Some p → AllByRecursion (λ l. l.price ≡ p) (opened rule os).tape
   -- a limit order worse than p does not trade
   pub worse_kept : (p : ℕ) → price os ≡ Some p → (s : Side) (x : ℕ) → better_than s x p ≡ true → held (at s (Limit x)) (opened rule os).orders ≡ held (at s (Limit x)) os
   -- where a level trades, nothing better is left
@@ -213,11 +213,11 @@ module _ (rule : Rule) (fair : Fairly rule) (p : ℕ) (low : lowest_price ≤ p)
         two_limits rule fair p low high m b s t,
       )
 
-all_at : (p : ℕ) (ks : List Kind) → All (λ k. line_price (Opening p) k ≡ p) ks
+all_at : (p : ℕ) (ks : List Kind) → AllByRecursion (λ k. line_price (Opening p) k ≡ p) ks
 all_at p [] = tt
 all_at p (k ∷ ks) = (refl, all_at p ks)
 
-cross_price : (rule : Rule) (p : ℕ) (k : Kind) (m : Step) → All (λ l. l.price ≡ p) m.tape → All (λ l. l.price ≡ p) (cross rule p k m).tape
+cross_price : (rule : Rule) (p : ℕ) (k : Kind) (m : Step) → AllByRecursion (λ l. l.price ≡ p) m.tape → AllByRecursion (λ l. l.price ≡ p) (cross rule p k m).tape
 cross_price rule p k m a =
     let w : ℕ = lesser k m.orders in
     fill_price (λ x. x ≡ p) rule (Opening p) Offer w k (fill rule (Opening p) Bid w k m) refl (fill_price (λ x. x ≡ p) rule (Opening p) Bid w k m refl a)
@@ -349,7 +349,7 @@ module _ (rule : Rule) (fair : Fairly rule) (os : List Order) (b : Book os) (p :
     ]
   ]
 
-  end_price : All (λ l. l.price ≡ p) (stages rule p (volume os) os).tape
+  end_price : AllByRecursion (λ l. l.price ≡ p) (stages rule p (volume os) os).tape
   end_price = cross_price rule p (Limit p) (turned p (cross rule p OnOpen (stage_one rule p (volume os) (start os))))
       (cross_price rule p OnOpen (stage_one rule p (volume os) (start os))
       (serve_price (λ x. x ≡ p) rule (Opening p) Offer (volume os) (levels Offer os) (serve rule (Opening p) Bid (volume os) (levels Bid os) (start os)) (all_at p (levels Offer os))
@@ -463,7 +463,7 @@ module _ (rule : Rule) (fair : Fairly rule) (os : List Order) (b : Book os) wher
     uncrossed = uncrossed_at (price os) refl;
     none_on_open = none_at (price os) refl;
     total_is = λ p e. subst (λ (o : Option ℕ). (opened_at rule os (volume os) o).total ≡ min (demand os p + held (at Bid OnOpen) os) (supply os p + held (at Offer OnOpen) os)) (sym e) (total_at p e);
-    at_price = λ p e. of_end p e (λ m. All (λ l. l.price ≡ p) m.tape) (subst (λ (m : Step). All (λ l. l.price ≡ p) m.tape) (sym (end_is rule fair os b p (kept p e))) (end_price rule fair os b p (kept p e)));
+    at_price = λ p e. of_end p e (λ m. AllByRecursion (λ l. l.price ≡ p) m.tape) (subst (λ (m : Step). AllByRecursion (λ l. l.price ≡ p) m.tape) (sym (end_is rule fair os b p (kept p e))) (end_price rule fair os b p (kept p e)));
     worse_kept = λ p e. of_end p e (λ m. (s : Side) (x : ℕ) → better_than s x p ≡ true → held (at s (Limit x)) m.orders ≡ held (at s (Limit x)) os) (end_worse rule fair os b p (kept p e));
     better_first = λ p e. of_end p e (λ m. (s : Side) (x : ℕ) → held (at s (Limit x)) m.orders < held (at s (Limit x)) os → ahead s m.orders x ≡ 0) (end_better rule fair os b p (kept p e));
   }

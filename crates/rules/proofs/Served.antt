@@ -1,6 +1,6 @@
 -- Levels served in turn: a side's lots, best price first.
 use Rattle.std.proofs.Common.{◌≡◌, ℕ, ◌+◌, ◌-◌, ◌<◌, ◌≤◌, min, Bool, true, false, cond, ◌&&◌, eqb, List, [], ◌∷◌, map, length, filter, sym, refl, ap, ◌∙◌, subst, inl, inr, arith}
-use Rattle.std.specs.List.{AllByRecursion as All}
+use Rattle.std.specs.List.{AllByRecursion}
 use Rattle.std.proofs.lemmas.Bool.{cases_lt, cases_Bool, cond_both, cond-true, cond-false, eq-eqb}
 use Rattle.std.proofs.lemmas.Bool.Decides.{nat_tests}
 use Rattle.std.proofs.ByRecursion.{All-weaker, all_kept_by}
@@ -48,16 +48,16 @@ own_test Offer b = refl
 -- of prices in order, those that pass stand in front
 abbrev pub Front : (ℕ → Bool) → List ℕ → Type 0
 Front t [] = Unit {0}
-Front t (x ∷ xs) = (t x ≡ false → All (λ y. t y ≡ false) xs) × Front t xs
+Front t (x ∷ xs) = (t x ≡ false → AllByRecursion (λ y. t y ≡ false) xs) × Front t xs
 
-in_false : (t : ℕ → Bool) (xs : List ℕ) (x : ℕ) → All (λ y. t y ≡ false) xs → In x xs → t x ≡ true → ⊥
+in_false : (t : ℕ → Bool) (xs : List ℕ) (x : ℕ) → AllByRecursion (λ y. t y ≡ false) xs → In x xs → t x ≡ true → ⊥
 in_false t [] x a i e = i
 in_false t (y ∷ ys) x a i e = elim i [
   | inl j ↦ (let c : true ≡ false = sym e ∙ ap t j ∙ a.0 in let z : ◌≡◌ {A = ℕ} 0 1 = cc in omega arith)
   | inr i' ↦ in_false t ys x a.1 i' e
 ]
 
-every : (P : ℕ → Type 0) → ((x : ℕ) → P x) → (xs : List ℕ) → All P xs
+every : (P : ℕ → Type 0) → ((x : ℕ) → P x) → (xs : List ℕ) → AllByRecursion P xs
 every P h [] = tt
 every P h (x ∷ xs) = (h x, every P h xs)
 
@@ -98,7 +98,7 @@ module _ (rule : Rule) (fair : Fairly rule) (terms : Terms) (s : Side) where
       )
 
   -- what none of the levels holds stays as it is
-  pub serve_beside : (v : ℕ) (xs : List ℕ) (m : Step) → Book m.orders → (T : Side → Kind → Bool) → All (λ x. T s (Limit x) ≡ false) xs → of_kind T (serve rule terms s v (map Limit xs) m).orders ≡ of_kind T m.orders
+  pub serve_beside : (v : ℕ) (xs : List ℕ) (m : Step) → Book m.orders → (T : Side → Kind → Bool) → AllByRecursion (λ x. T s (Limit x) ≡ false) xs → of_kind T (serve rule terms s v (map Limit xs) m).orders ≡ of_kind T m.orders
   serve_beside v [] m b T h = refl
   serve_beside v (x ∷ xs) m b T h =
       let e = fill_kind rule fair terms s v (Limit x) m b T in
@@ -162,13 +162,13 @@ module _ (rule : Rule) (fair : Fairly rule) (terms : Terms) (s : Side) where
 -- each better than all behind it
 abbrev pub Sorted : Side → List ℕ → Type 0
 Sorted s [] = Unit {0}
-Sorted s (x ∷ xs) = All (λ y. better_than s y x ≡ true) xs × Sorted s xs
+Sorted s (x ∷ xs) = AllByRecursion (λ y. better_than s y x ≡ true) xs × Sorted s xs
 
-all_into : (s : Side) (P : ℕ → Type 0) (x : ℕ) (ys : List ℕ) → P x → All P ys → All P (into s x ys)
+all_into : (s : Side) (P : ℕ → Type 0) (x : ℕ) (ys : List ℕ) → P x → AllByRecursion P ys → AllByRecursion P (into s x ys)
 all_into s P x [] h a = (h, tt)
-all_into s P x (y ∷ ys) h a = cond_both (better_than s y x) (x ∷ y ∷ ys) (cond (eqb x y) (y ∷ ys) (y ∷ into s x ys)) (All P)
+all_into s P x (y ∷ ys) h a = cond_both (better_than s y x) (x ∷ y ∷ ys) (cond (eqb x y) (y ∷ ys) (y ∷ into s x ys)) (AllByRecursion P)
     (λ _. (h, a))
-    (λ _. cond_both (eqb x y) (y ∷ ys) (y ∷ into s x ys) (All P) (λ _. a) (λ _. (a.0, all_into s P x ys h a.1)))
+    (λ _. cond_both (eqb x y) (y ∷ ys) (y ∷ into s x ys) (AllByRecursion P) (λ _. a) (λ _. (a.0, all_into s P x ys h a.1)))
 
 better_chain : (s : Side) (x y z : ℕ) → better_than s y x ≡ true → better_than s z y ≡ true → better_than s z x ≡ true
 better_chain Bid x y z a b = grind (arith, nat_tests)
@@ -238,7 +238,7 @@ serve_some rule fair terms s a t up narrow v m b =
     (λ x e h. kept_in a xs x (best_first_in s (prices s m.orders) x (level_in s m.orders x h)) (narrow x e))
 
 -- every line is at a price of which P holds
-pub serve_price : (P : ℕ → Type 0) (rule : Rule) (terms : Terms) (s : Side) (v : ℕ) (ks : List Kind) (m : Step) → All (λ k. P (line_price terms k)) ks → All (λ l. P l.price) m.tape → All (λ l. P l.price) (serve rule terms s v ks m).tape
+pub serve_price : (P : ℕ → Type 0) (rule : Rule) (terms : Terms) (s : Side) (v : ℕ) (ks : List Kind) (m : Step) → AllByRecursion (λ k. P (line_price terms k)) ks → AllByRecursion (λ l. P l.price) m.tape → AllByRecursion (λ l. P l.price) (serve rule terms s v ks m).tape
 serve_price P rule terms s v [] m h a = a
 serve_price P rule terms s v (k ∷ ks) m h a = serve_price P rule terms s (v - held (at s k) m.orders) ks (fill rule terms s v k m) h.1 (fill_price P rule terms s v k m h.0 a)
 

@@ -1,6 +1,6 @@
 -- What an entry that meets an open book keeps.
 use Rattle.std.proofs.Common.{◌≡◌, ℕ, ◌+◌, ◌-◌, ◌<◌, ◌≤◌, min, Bool, true, false, cond, not, ◌&&◌, eqb, ltb, ◌⊎◌, List, [], ◌∷◌, ◌++◌, map, length, Some, None, filter, Option, sym, refl, ap, ◌∙◌, subst, inl, inr, arith, length-append}
-use Rattle.std.specs.List.{AllByRecursion as All}
+use Rattle.std.specs.List.{AllByRecursion}
 use Rattle.std.proofs.lemmas.List.{append-nil}
 use Rattle.std.proofs.lemmas.Bool.{cases_eq, cases_lt, cases_Bool, cond_both, cond-true, cond-false, ltb-true, ltb-false, leb-false, eq-eqb, ne_eqb, and_parts}
 use Rattle.std.proofs.lemmas.Bool.Decides.{nat_tests}
@@ -88,7 +88,7 @@ module _ (rule : Rule) (fair : Fairly rule) (e : Incoming) (os : List Order) (b 
   abbrev met_prices : List ℕ
   met_prices = filter accepted (ranked far os)
 
-  all_accepted : All (λ x. accepted x ≡ true) met_prices
+  all_accepted : AllByRecursion (λ x. accepted x ≡ true) met_prices
   all_accepted = kept_by_passes accepted (ranked far os)
 
   pub met_book : Book (met rule e os).orders
@@ -138,10 +138,10 @@ module _ (rule : Rule) (fair : Fairly rule) (e : Incoming) (os : List Order) (b 
       )
 
   -- every line is at a price that the entry accepts
-  pub met_price : All (λ l. accepted l.price ≡ true) (met rule e os).tape
+  pub met_price : AllByRecursion (λ l. accepted l.price ≡ true) (met rule e os).tape
   met_price = serve_price (λ x. accepted x ≡ true) rule (Entry e.number) far e.lots (map Limit met_prices) (record { orders = os; tape = [] }) (at_limits met_prices all_accepted) tt
     where
-      at_limits : (ys : List ℕ) → All (λ x. accepted x ≡ true) ys → All (λ k. accepted (line_price (Entry e.number) k) ≡ true) (map Limit ys)
+      at_limits : (ys : List ℕ) → AllByRecursion (λ x. accepted x ≡ true) ys → AllByRecursion (λ k. accepted (line_price (Entry e.number) k) ≡ true) (map Limit ys)
       at_limits [] a = tt
       at_limits (y ∷ ys) a = (a.0, at_limits ys a.1)
 
@@ -185,7 +185,7 @@ pub record MatchingKeeps (rule : Rule) (e : Incoming) (os : List Order) : Type 0
   -- as many lots are bought as sold: those the entry traded
   pub even : (s : Side) → lined (λ n side. is s side) (matched rule e os).tape ≡ (matched rule e os).traded
   -- every line is at a price that the entry accepts
-  pub accepted_prices : All (λ l. accepts e.side e.limit l.price ≡ true) (matched rule e os).tape
+  pub accepted_prices : AllByRecursion (λ l. accepts e.side e.limit l.price ≡ true) (matched rule e os).tape
 
 -- the lots of two lists in turn
 pub held_append : (t : Order → Bool) (os ps : List Order) → held t (os ++ ps) ≡ held t os + held t ps
@@ -256,7 +256,7 @@ module _ (rule : Rule) (fair : Fairly rule) (e : Incoming) (os : List Order) (b 
             (λ _. rest_account t) (λ _. omega arith);
         even = λ s. cond_both ok goes stays (λ d. lined (λ n side. is s side) d.tape ≡ d.traded)
             (λ _. both_sides (λ s. lined (λ n side. is s side) (met rule e os).tape ≡ n) e.side (met_even rule fair e os b).0 (met_even rule fair e os b).1 s) (λ _. refl);
-        accepted_prices = cond_both ok goes stays (λ d. All (λ l. accepts e.side e.limit l.price ≡ true) d.tape) (λ _. met_price rule fair e os b) (λ _. tt);
+        accepted_prices = cond_both ok goes stays (λ d. AllByRecursion (λ l. accepts e.side e.limit l.price ≡ true) d.tape) (λ _. met_price rule fair e os b) (λ _. tt);
       }
 
 -- ---- the book that a matched entry leaves

@@ -1,6 +1,6 @@
 -- The open orders of a book, in entry order, and the lots they hold.
 use Rattle.std.specs.Prelude.{ℕ, ◌+◌, ◌≤◌, Bool, true, false, cond, ◌&&◌, List, [], ◌∷◌, map, length, Some, None, filter, Option, ◌==◌}
-use Rattle.std.specs.List.{AllByRecursion as All}
+use Rattle.std.specs.List.{AllByRecursion}
 use Rattle.rules.specs.declared.order.Side.{Side}
 use Rattle.rules.specs.declared.order.Side.TheVariants.{Bid, Offer}
 use Rattle.rules.specs.declared.order.Kind.{Kind}
@@ -83,7 +83,7 @@ InRange OnOpen = Unit {0}
 
 -- From 1 lot to the largest volume, and a limit within the range of prices.
 abbrev pub Sound : List Order → Type 0
-Sound os = All (λ o. (1 ≤ o.lots) × (o.lots ≤ most_lots) × InRange o.kind) os
+Sound os = AllByRecursion (λ o. (1 ≤ o.lots) × (o.lots ≤ most_lots) × InRange o.kind) os
 
 pub record Book (os : List Order) : Type 0 where
   pub sound : Sound os

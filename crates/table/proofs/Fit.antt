@@ -1,6 +1,6 @@
 -- Lists of orders that fit: what keeps them so, and what they are by the rules.
 use Rattle.std.proofs.Common.{◌≡◌, ℕ, ◌<◌, ◌≤◌, Bool, true, false, cond, ◌&&◌, eqb, ltb, leb, List, [], ◌∷◌, ◌++◌, map, length, get_or, take, set, Some, filter, refl, arith}
-use Rattle.std.specs.List.{AllByRecursion as All}
+use Rattle.std.specs.List.{AllByRecursion}
 use Rattle.std.proofs.ByRecursion.{All-get_or, All-append, All-set, All-take, All-map, all_kept_by, All-weaker, Decides-by_and}
 use Rattle.std.proofs.lemmas.List.{length-take-le}
 use Rattle.std.proofs.lemmas.Bool.{and_parts, and_from, leb-true, le-leb, ltb-true, cond_both}
@@ -27,10 +27,10 @@ Fits o = fits o ≡ true
 
 -- ---- the test of all, and what holds of each
 
-pub each_fits : (os : List Order) → all_fit os ≡ true → All Fits os
+pub each_fits : (os : List Order) → all_fit os ≡ true → AllByRecursion Fits os
 each_fits os h = (Decides-by_and fits Fits all_fit (λ o. (λ e. e, λ e. e)) refl (λ _ _. refl) os).0 h
 
-pub all_fits : (os : List Order) → All Fits os → all_fit os ≡ true
+pub all_fits : (os : List Order) → AllByRecursion Fits os → all_fit os ≡ true
 all_fits os h = (Decides-by_and fits Fits all_fit (λ o. (λ e. e, λ e. e)) refl (λ _ _. refl) os).1 h
 
 pub fit_append : (os ps : List Order) → all_fit os ≡ true → all_fit ps ≡ true → all_fit (os ++ ps) ≡ true
@@ -89,18 +89,18 @@ changed_fits (Turn price) h o k =
 
 -- ---- an order of a number
 
-without_each : (n : ℕ) (os : List Order) → All Fits os → All Fits (without n os)
+without_each : (n : ℕ) (os : List Order) → AllByRecursion Fits os → AllByRecursion Fits (without n os)
 without_each n [] h = tt
-without_each n (o ∷ os) h = cond_both (eqb o.number n) os (o ∷ without n os) (All Fits) (λ _. h.1) (λ _. (h.0, without_each n os h.1))
+without_each n (o ∷ os) h = cond_both (eqb o.number n) os (o ∷ without n os) (AllByRecursion Fits) (λ _. h.1) (λ _. (h.0, without_each n os h.1))
 
 pub fit_without : (n : ℕ) (os : List Order) → all_fit os ≡ true → all_fit (without n os) ≡ true
 fit_without n os h = all_fits (without n os) (without_each n os (each_fits os h))
 
-reduced_step : (n k : ℕ) (o : Order) (os : List Order) (b : Bool) → k < open_lots (cond b (Some o) (order_of n os)) → All Fits (o ∷ os) → (k < open_lots (order_of n os) → All Fits (reduced n k os)) → All Fits (cond b (less o k ∷ os) (o ∷ reduced n k os))
+reduced_step : (n k : ℕ) (o : Order) (os : List Order) (b : Bool) → k < open_lots (cond b (Some o) (order_of n os)) → AllByRecursion Fits (o ∷ os) → (k < open_lots (order_of n os) → AllByRecursion Fits (reduced n k os)) → AllByRecursion Fits (cond b (less o k ∷ os) (o ∷ reduced n k os))
 reduced_step n k o os true lt h rest = (less_fits o k lt h.0, h.1)
 reduced_step n k o os false lt h rest = (h.0, rest lt)
 
-reduced_each : (n k : ℕ) (os : List Order) → k < open_lots (order_of n os) → All Fits os → All Fits (reduced n k os)
+reduced_each : (n k : ℕ) (os : List Order) → k < open_lots (order_of n os) → AllByRecursion Fits os → AllByRecursion Fits (reduced n k os)
 reduced_each n k [] lt h = tt
 reduced_each n k (o ∷ os) lt h = reduced_step n k o os (eqb o.number n) lt h (λ less. reduced_each n k os less h.1)
 
@@ -114,16 +114,16 @@ fit_reduced n k os lt h = all_fits (reduced n k os) (reduced_each n k os lt (eac
 abbrev Loose : Order → Type 0
 Loose o = (o.lots ≤ most_lots) × (kind_fits o.kind ≡ true)
 
-taken_loose : (s : Side) (k : Kind) (gs : List ℕ) (os : List Order) → All Loose os → All Loose (taken s k gs os)
+taken_loose : (s : Side) (k : Kind) (gs : List ℕ) (os : List Order) → AllByRecursion Loose os → AllByRecursion Loose (taken s k gs os)
 taken_loose s k gs [] h = tt
 taken_loose s k [] (o ∷ os) h = h
 taken_loose s k (g ∷ gs) (o ∷ os) h =
-    cond_both (at s k o) (less o g ∷ taken s k gs os) (o ∷ taken s k (g ∷ gs) os) (All Loose) (λ _. ((omega (arith, h.0.0), h.0.1), taken_loose s k gs os h.1)) (λ _. (h.0, taken_loose s k (g ∷ gs) os h.1))
+    cond_both (at s k o) (less o g ∷ taken s k gs os) (o ∷ taken s k (g ∷ gs) os) (AllByRecursion Loose) (λ _. ((omega (arith, h.0.0), h.0.1), taken_loose s k gs os h.1)) (λ _. (h.0, taken_loose s k (g ∷ gs) os h.1))
 
-standing_fits : (os : List Order) → All Loose os → All Fits (standing os)
+standing_fits : (os : List Order) → AllByRecursion Loose os → AllByRecursion Fits (standing os)
 standing_fits [] h = tt
 standing_fits (o ∷ os) h =
-    cond_both (ltb 0 o.lots) (o ∷ standing os) (standing os) (All Fits) (λ e. (fits_from o (omega (arith, ltb-true 0 o.lots e)) h.0.0 h.0.1, standing_fits os h.1)) (λ _. standing_fits os h.1)
+    cond_both (ltb 0 o.lots) (o ∷ standing os) (standing os) (AllByRecursion Fits) (λ e. (fits_from o (omega (arith, ltb-true 0 o.lots e)) h.0.0 h.0.1, standing_fits os h.1)) (λ _. standing_fits os h.1)
 
 -- What stands after shares are taken off.
 pub fit_traded : (s : Side) (k : Kind) (gs : List ℕ) (os : List Order) → all_fit os ≡ true → all_fit (standing (taken s k gs os)) ≡ true

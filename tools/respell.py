@@ -19,6 +19,10 @@ import sys
 
 NAME = re.compile(r"[A-Za-z_][\w'′]*(?:-[\w'′]+)*")
 DECLARED = re.compile(r"^\s*(?:(?:abbrev|unfoldable|pub)\s+)*(?:(?:record|data)\s+([A-Za-z][\w'′]*(?:-[\w'′]+)+)|([A-Za-z][\w'′]*(?:-[\w'′]+)+)\s*:)")
+# The names under which a file takes something.
+TAKEN_AS = re.compile(r"^\s*(?:ghost )?use .*?$", re.M)
+# A parameter that no pattern here finds.
+PARAMETERS = ["first-number"]
 # What a file takes from elsewhere keeps its name there.
 TAKEN = re.compile(r"^\s*(?:ghost )?use (?:Rattle\.std|borrow|denote|native|lib|mathlib|logic|specs)\b[^{]*\{([^}]*)\}", re.M)
 WORDS = ["overflow_add", "overflow_sub", "overflow_mul", "overflow_cast", "overflow_step", "overflow_shl", "overflow_shr",
@@ -90,6 +94,12 @@ def main():
                     name = m.group(1) or m.group(2)
                     if not (answers(path) and MADE.match(name)):
                         ours[name] = respelled(name)
+    for text in texts.values():
+        for line in TAKEN_AS.findall(text):
+            for name in re.findall(r" as ([a-z][\w']*(?:-[\w']+)+)", line):
+                ours[name] = respelled(name)
+    for name in PARAMETERS:
+        ours[name] = respelled(name)
     # names of the source with an underscore, by their spelling with a dash
     source = {}
     for path, text in texts.items():

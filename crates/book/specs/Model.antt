@@ -2,7 +2,7 @@
 use Rattle.std.specs.Prelude.{◌≡◌, Some, None, Ok, Err, Option, Result}
 use Rattle.policy.specs.Fair.{Rule}
 use Rattle.rules.specs.declared.calls.Phase.{Phase}
-use Rattle.rules.specs.declared.calls.Phase.TheVariants.{PreOpen as pre-open, Open as in-session}
+use Rattle.rules.specs.declared.calls.Phase.TheVariants.{PreOpen as pre_open, Open as in_session}
 use Rattle.rules.specs.declared.calls.Answer.{Answer}
 use Rattle.rules.specs.declared.calls.Answer.TheVariants.{Refused}
 use Rattle.rules.specs.declared.refusal.Refusal.{Refusal}
@@ -41,10 +41,10 @@ module _ {O S : Type 0} where
 
 -- A book before its opening, and one in session.
 abbrev pub waiting : {O S : Type 0} → Book Waiting O S → Machine
-waiting b = machine pre-open b.held
+waiting b = machine pre_open b.held
 
 abbrev pub trading : {O S : Type 0} → Book Trading O S → Machine
-trading b = machine in-session b.held
+trading b = machine in_session b.held
 
 -- ---- answers
 

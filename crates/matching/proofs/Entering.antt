@@ -56,14 +56,14 @@ reach_is : (e : Incoming) (os : List Order) → limits (other e.side) (among (pr
 reach_is e os = ap (λ (t : ℕ → Bool). limits (other e.side) t os) (accepts_is e.side e.limit)
 
 -- the same with the side and the prices as the code names them
-met_from : (rule : Rule) (e : Incoming) (os : List Order) (tape : List TapeLine) (n : Step) (side : Side) (ps : Prices) → side ≡ other e.side → ps ≡ prices_for e.limit → tape ≡ [] →
+pub met_from : (rule : Rule) (e : Incoming) (os : List Order) (tape : List TapeLine) (n : Step) (side : Side) (ps : Prices) → side ≡ other e.side → ps ≡ prices_for e.limit → tape ≡ [] →
     n ≡ serve rule (Entry e.number) side e.lots (map Limit (filter (among ps side) (ranked side os))) (record { orders = os; tape = tape }) → n ≡ met rule e os
 met_from rule e os tape n side ps es ep z h = met_is rule e os tape n z
     (h
     ∙ ap (λ (x : Side). serve rule (Entry e.number) x e.lots (map Limit (filter (among ps x) (ranked x os))) (record { orders = os; tape = tape })) es
     ∙ ap (λ (x : Prices). serve rule (Entry e.number) (other e.side) e.lots (map Limit (filter (among x (other e.side)) (ranked (other e.side) os))) (record { orders = os; tape = tape })) ep)
 
-reach_from : (e : Incoming) (os : List Order) (side : Side) (ps : Prices) → side ≡ other e.side → ps ≡ prices_for e.limit → limits side (among ps side) os ≡ reach e os
+pub reach_from : (e : Incoming) (os : List Order) (side : Side) (ps : Prices) → side ≡ other e.side → ps ≡ prices_for e.limit → limits side (among ps side) os ≡ reach e os
 reach_from e os side ps es ep =
     ap (λ (x : Side). limits x (among ps x) os) es
     ∙ ap (λ (x : Prices). limits (other e.side) (among x (other e.side)) os) ep

@@ -33,6 +33,9 @@ pub record Walked (rule : Rule) (terms : Terms) (s : Side) (t : ℕ → Bool) (v
   pub lines : length n.tape ≤ length m.tape + lines_for terms (length (prices s m.orders))
   pub room : 0 < left → length n.tape + lines_for terms (length (prices s n.orders)) ≤ length m.tape + lines_for terms (length (prices s m.orders))
 
+pub walked_start : (rule : Rule) (terms : Terms) (s : Side) (t : ℕ → Bool) (v : ℕ) (m : Step) → Walked rule terms s t v m v m
+walked_start rule terms s t v m = record { same = refl; over = refl; lines = omega arith; room = λ _. omega arith }
+
 -- ---- the next price
 
 pub next_some : (left x : ℕ) (xs : List ℕ) → next_of left xs ≡ Some x → (0 < left) × (first_of xs ≡ Some x)

@@ -1,6 +1,6 @@
 // An entry that meets an open book.
 ghost use Rattle.std.specs.Prelude.{◌≡◌, ◌+◌, ◌*◌, ◌≤◌, true, ◌++◌, length};
-ghost use Rattle.rules.specs.Orders.{limits, prices as prices-of};
+ghost use Rattle.rules.specs.Orders.{limits, prices as prices_of};
 ghost use Rattle.rules.specs.Session.{enough, rests, resting, matched};
 ghost use Rattle.table.specs.Tables.{open_orders, tape_lines};
 ghost use Rattle.table.specs.Choices.{among};
@@ -56,7 +56,7 @@ fn trade_allowed<P: Policy>(
     side: Side,
     prices: Prices,
 ) -> Option<u32>
-    requires { length (tape_lines tape.old) + 2 * length (prices-of side (open_orders table.old)) ≤ 512 }
+    requires { length (tape_lines tape.old) + 2 * length (prices_of side (open_orders table.old)) ≤ 512 }
     ensures exact { step_of table.new tape.new ≡ allowed (P.Policy.rule policy.now) e side prices (step_of table.old tape.old) }
     ensures left { result ≡ left_of e (limits side (among prices side) (open_orders table.old)) }
 {

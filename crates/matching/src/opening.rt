@@ -5,7 +5,7 @@ ghost use Rattle.rules.specs.Orders.{level, on_open};
 ghost use Rattle.rules.specs.Price.{volume as volume_of, price_at};
 ghost use Rattle.rules.specs.Steps.{pair_of};
 ghost use Rattle.rules.specs.Trades.{lined};
-ghost use Rattle.rules.specs.Opening.{stage_one, lesser as lesser-of, cross as crossed, turned, stages, opened_at, opened};
+ghost use Rattle.rules.specs.Opening.{stage_one, lesser as lesser_of, cross as crossed, turned, stages, opened_at, opened};
 ghost use Rattle.rules.specs.declared.order.Side.TheVariants.{Bid, Offer};
 ghost use Rattle.rules.specs.declared.order.Kind.TheVariants.{OnOpen};
 ghost use Rattle.table.specs.Fits.{price_fits};
@@ -36,7 +36,7 @@ fn trade_limits<P: Policy>(table: &mut Table, tape: &mut Tape, policy: &P, lots:
 
 // The lots that both sides of a level can trade.
 fn lesser(table: &Table, kind: Kind) -> u32
-    ensures { result ≡ lesser-of kind (open_orders table.now) }
+    ensures { result ≡ lesser_of kind (open_orders table.now) }
 {
     let bids = lots_at(table, Side::Bid, kind);
     bids.min(lots_at(table, Side::Offer, kind))

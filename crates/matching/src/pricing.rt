@@ -1,8 +1,8 @@
 // The volume and the price at which a book would open.
-ghost use Rattle.std.specs.Prelude.{◌≡◌, min, max, ◌&&◌, ltb, [], ◌∷◌, if◌then◌else◌, Some, None, filter, nat_lt};
+ghost use Rattle.std.specs.Prelude.{◌≡◌, min, max, ◌&&◌, [], ◌∷◌, if◌then◌else◌, Some, None, filter, nat_lt};
 ghost use Rattle.rules.specs.Sides.{midpoint};
 ghost use Rattle.rules.specs.Orders.{prices};
-ghost use Rattle.rules.specs.Price.{most_of, tradable as tradable-of, volume as volume_of, price_at, untraded, highest, lowest};
+ghost use Rattle.rules.specs.Price.{most_of, tradable as tradable_of, volume as volume_of, price_at, untraded, highest, lowest};
 ghost use Rattle.rules.specs.declared.order.Side.TheVariants.{Bid, Offer};
 ghost use Rattle.table.specs.Tables.{open_orders};
 ghost use Rattle.matching.specs.Ends.{looked_at, start_of, further, furthest_from, furthest};
@@ -88,7 +88,7 @@ fn middle(a: u32, b: u32) -> u32
 
 // The lots of limit orders that could trade with each other at q.
 fn tradable(table: &Table, q: u32) -> u32
-    ensures { result ≡ tradable-of (open_orders table.now) q }
+    ensures { result ≡ tradable_of (open_orders table.now) q }
 {
     let bids = table.lots(Side::Bid, Prices::AsGoodAs(q));
     bids.min(table.lots(Side::Offer, Prices::AsGoodAs(q)))
@@ -96,7 +96,7 @@ fn tradable(table: &Table, q: u32) -> u32
 
 // The lots that could trade at the price of a limit bid; of another order none.
 fn tradable_at(table: &Table, o: Order) -> u32
-    ensures { result ≡ most_of (tradable-of (open_orders table.now)) (prices Bid (o ∷ [])) }
+    ensures { result ≡ most_of (tradable_of (open_orders table.now)) (prices Bid (o ∷ [])) }
 {
     match o.limit(Side::Bid) {
         Some(q) => tradable(table, q),
@@ -127,7 +127,7 @@ fn price_between(table: &Table, v: u32, last_bid: u32, last_offer: u32) -> u32
 
 // The price where no lot trades: the middle between the best bid and the best offer, if both sides have lots.
 fn price_untraded(table: &Table, bids: u32, offers: u32) -> Option<u32>
-    ensures { result ≡ (if ltb 0 bids && nat_lt 0 offers then Some (midpoint (highest (prices Bid (open_orders table.now))) (lowest (prices Offer (open_orders table.now)))) else None) }
+    ensures { result ≡ (if nat_lt 0 bids && nat_lt 0 offers then Some (midpoint (highest (prices Bid (open_orders table.now))) (lowest (prices Offer (open_orders table.now)))) else None) }
 {
     if bids == 0 || offers == 0 {
         return None;

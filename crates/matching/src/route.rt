@@ -1,6 +1,6 @@
 // Trading with the levels of a side in turn, the best price first.
 ghost use Rattle.std.specs.Prelude.{◌≡◌, ◌+◌, ◌-◌, ◌<◌, ◌≤◌, min, [], ◌∷◌, ◌++◌, map, length, filter};
-ghost use Rattle.rules.specs.Orders.{at, level, held as held_by, limits, prices as prices-of};
+ghost use Rattle.rules.specs.Orders.{at, level, held as held_by, limits, prices as prices_of};
 ghost use Rattle.rules.specs.Trades.{line, fill, serve, ranked};
 ghost use Rattle.rules.specs.Sides.{other};
 ghost use Rattle.rules.specs.declared.order.Kind.TheVariants.{Limit};
@@ -29,7 +29,7 @@ fn better(side: Side, found: Option<u32>, x: u32) -> Option<u32>
 
 // The price found so far, and that of one order more if it is one of the prices.
 fn with_order(side: Side, prices: Prices, found: Option<u32>, o: Order) -> Option<u32>
-    ensures { result ≡ best_from side found (filter (among prices side) (prices-of side (o ∷ []))) }
+    ensures { result ≡ best_from side found (filter (among prices side) (prices_of side (o ∷ []))) }
 {
     match o.limit(side) {
         Some(x) if prices.among(side, x) => better(side, found, x),
@@ -125,10 +125,10 @@ pub fn walk<P: Policy>(
     prices: Prices,
     lots: u32,
 ) -> u32
-    requires { length (tape_lines tape.old) + lines_for terms (length (prices-of side (open_orders table.old))) ≤ 512 }
+    requires { length (tape_lines tape.old) + lines_for terms (length (prices_of side (open_orders table.old))) ≤ 512 }
     ensures exact { step_of table.new tape.new ≡ serve (P.Policy.rule policy.now) terms side lots (map Limit (filter (among prices side) (ranked side (open_orders table.old)))) (step_of table.old tape.old) }
     ensures left { result ≡ lots - limits side (among prices side) (open_orders table.old) }
-    ensures lines { length (tape_lines tape.new) ≤ length (tape_lines tape.old) + lines_for terms (length (prices-of side (open_orders table.old))) }
+    ensures lines { length (tape_lines tape.new) ≤ length (tape_lines tape.old) + lines_for terms (length (prices_of side (open_orders table.old))) }
 {
     let mut left = lots;
     while let Some(x) = next_price(table, side, prices, left) {

@@ -368,6 +368,10 @@ held_kept t u (o ∷ os) = go (u o) (t o) refl (held_kept t u os)
     go false true e h = rw e (omega arith)
     go false false e h = rw e (omega arith)
 
+-- without the On-Open orders
+without : (t : Order → Bool) (os : List Order) → held t os ≡ held t (filter (λ o. not (on_open o)) os) + held (λ o. t o && on_open o) os
+without t os = held_kept t on_open os
+
 none_open : (os : List Order) → held on_open (filter (λ o. not (on_open o)) os) ≡ 0
 none_open [] = refl
 none_open (o ∷ os) = go (on_open o) refl (none_open os)

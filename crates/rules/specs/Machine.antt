@@ -36,11 +36,11 @@ nearest_day d = max first_day (min d last_day)
 
 -- A last trading day before today is taken as today, and a first entry number of 0 as 1.
 abbrev pub made : Ladder → ℕ → ℕ → ℕ → Machine
-made ladder today last first-number = record {
+made ladder today last first_number = record {
   ladder = ladder;
   today = nearest_day today;
   last_trading_day = max (nearest_day today) (nearest_day last);
-  next = max 1 first-number;
+  next = max 1 first_number;
   tape = [];
   phase = PreOpen;
   hours = Day;

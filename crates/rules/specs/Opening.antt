@@ -35,7 +35,7 @@ abbrev pub turned : ℕ → Step → Step
 turned p m = record { orders = map (turn p) m.orders; tape = m.tape }
 
 -- Stage two crosses the On-Open orders; stage three turns what is left of them and crosses the level at p. No two limit
--- orders could trade there before (the law Price-lies-between says so), so all that trades in stage three trades with a turned order.
+-- orders could trade there before (the law PriceLiesBetween says so), so all that trades in stage three trades with a turned order.
 abbrev pub stages : Rule → ℕ → ℕ → List Order → Step
 stages rule p v os = cross rule p (Limit p) (turned p (cross rule p OnOpen (stage_one rule p v (record { orders = os; tape = [] }))))
 

@@ -1,5 +1,5 @@
 -- The volume and the price of an opening.
-use Rattle.std.specs.Prelude.{ℕ, zero, suc, min, max, cond, ◌&&◌, ltb, List, [], ◌∷◌, Some, None, filter, Option, ◌==◌, nat_le, nat_lt}
+use Rattle.std.specs.Prelude.{ℕ, zero, suc, min, max, cond, ◌&&◌, List, [], ◌∷◌, Some, None, filter, Option, ◌==◌, nat_le, nat_lt}
 use Rattle.rules.specs.declared.order.Side.{Side}
 use Rattle.rules.specs.declared.order.Side.TheVariants.{Bid, Offer}
 use Rattle.rules.specs.declared.order.Order.{Order}
@@ -28,10 +28,10 @@ most_of f (x ∷ xs) = max (f x) (most_of f xs)
 -- Of a side the first v lots trade, the better price first: a price trades where fewer than v lots are ahead of it,
 -- and is left, in whole or in part, where more than v lots are at it or ahead.
 abbrev pub traded : Side → ℕ → List Order → List ℕ
-traded s v os = filter (λ x. ltb (ahead s os x) v) (prices s os)
+traded s v os = filter (λ x. nat_lt (ahead s os x) v) (prices s os)
 
 abbrev pub untraded : Side → ℕ → List Order → List ℕ
-untraded s v os = filter (λ x. ltb v (within s os x)) (prices s os)
+untraded s v os = filter (λ x. nat_lt v (within s os x)) (prices s os)
 
 -- The highest and the lowest of some prices; of none, the end of the range.
 abbrev pub highest : List ℕ → ℕ

@@ -1,5 +1,5 @@
 -- Trading with a level, and with level after level, the better price first.
-use Rattle.std.specs.Prelude.{ℕ, ◌+◌, ◌-◌, min, Bool, cond, ltb, List, [], ◌∷◌, ◌++◌, map, filter, ◌==◌, nat_lt}
+use Rattle.std.specs.Prelude.{ℕ, ◌+◌, ◌-◌, min, Bool, cond, List, [], ◌∷◌, ◌++◌, map, filter, ◌==◌, nat_lt}
 use Rattle.policy.specs.Fair.{Rule, total}
 use Rattle.rules.specs.declared.order.Side.{Side}
 use Rattle.rules.specs.declared.order.Kind.{Kind}
@@ -28,7 +28,7 @@ taken s k (g ∷ gs) (o ∷ os) = cond (at s k o) (less o g ∷ taken s k gs os)
 
 -- An order without lots is gone.
 abbrev pub standing : List Order → List Order
-standing os = filter (λ o. ltb 0 o.lots) os
+standing os = filter (λ o. nat_lt 0 o.lots) os
 
 -- A line; none without lots.
 abbrev pub line : ℕ → Side → ℕ → ℕ → List TapeLine

@@ -1,7 +1,7 @@
 // What a trade with a level does to a table and writes on the tape.
 ghost use Rattle.std.specs.Prelude.{◌≡◌, ◌+◌, ◌<◌, ◌≤◌, ◌++◌, length, take};
 ghost use Rattle.policy.specs.Fair.{Within};
-ghost use Rattle.rules.specs.Orders.{level, queue as queue-of};
+ghost use Rattle.rules.specs.Orders.{level, queue as queue_of};
 ghost use Rattle.rules.specs.Trades.{less, taken, standing, line, lines};
 ghost use Rattle.table.specs.Tables.{open_orders, tape_lines};
 
@@ -28,7 +28,7 @@ fn take_off(
     price: u32,
     tape: &mut Tape,
 )
-    requires covered { Within (queue-of side kind orders.old) shares.now }
+    requires covered { Within (queue_of side kind orders.old) shares.now }
     requires room { length (tape_lines tape.old) + length shares.now ≤ 512 }
     ensures orders { orders.new ≡ taken side kind shares.now orders.old }
     ensures written { tape_lines tape.new ≡ tape_lines tape.old ++ lines price (level side kind orders.old) shares.now }
@@ -66,7 +66,7 @@ impl Table {
         requires { length queue.old ≡ 256 }
         ensures places { result ≡ length (level side kind (open_orders self.now)) }
         ensures most { result ≤ 256 }
-        ensures front { take result queue.new ≡ queue-of side kind (open_orders self.now) }
+        ensures front { take result queue.new ≡ queue_of side kind (open_orders self.now) }
     {
         let mut n = 0;
         for i in 0..self.count {
@@ -82,7 +82,7 @@ impl Table {
     // Trades the shares with a level at a price: its orders have that many lots less, those without lots are gone, and
     // the tape has their lines.
     pub fn apply(&mut self, side: Side, kind: Kind, shares: &[u32], price: u32, tape: &mut Tape)
-        requires covered { Within (queue-of side kind (open_orders self.old)) shares.now }
+        requires covered { Within (queue_of side kind (open_orders self.old)) shares.now }
         requires room { length (tape_lines tape.old) + length shares.now ≤ 512 }
         ensures orders { open_orders self.new ≡ standing (taken side kind shares.now (open_orders self.old)) }
         ensures written { tape_lines tape.new ≡ tape_lines tape.old ++ lines price (level side kind (open_orders self.old)) shares.now }

@@ -5,7 +5,7 @@ ghost use Rattle.policy.specs.Choosing.{base_fair, layered_fair};
 
 use crate::{Favour, Policy, PriceTime, ProRata, Refusal};
 
-#[derive(Clone, Copy)]
+#[derive(Clone, Copy, PartialEq, Eq, Debug)]
 pub enum Base {
     PriceTime,
     ProRata,
@@ -25,7 +25,7 @@ impl Policy for Base {
 }
 
 // A policy as it is, or with a favour over it.
-#[derive(Clone, Copy)]
+#[derive(Clone, Copy, PartialEq, Eq, Debug)]
 pub enum Layered<P> {
     Plain(P),
     Favoured(Favour<P>),

@@ -5,8 +5,9 @@ use crate::refusal::Refusal;
 mod closing;
 
 // The lifetime an entry asks for; a GTC order without a day is good till the last trading day.
-#[derive(Clone, Copy)]
+#[derive(Clone, Copy, PartialEq, Eq, Debug, Default)]
 pub enum TimeInForce {
+    #[default]
     Plain,
     Gis,
     Gtc(Option<u16>),
@@ -14,15 +15,16 @@ pub enum TimeInForce {
 
 // On what condition an entry trades. IC: what does not trade at once is withdrawn. CV: all of it trades at once, or
 // nothing does. MV: at least the minimum trades at once, or nothing does.
-#[derive(Clone, Copy)]
+#[derive(Clone, Copy, PartialEq, Eq, Debug, Default)]
 pub enum Condition {
+    #[default]
     Unconditional,
     Ic,
     Cv,
     Mv(u32),
 }
 
-#[derive(Clone, Copy)]
+#[derive(Clone, Copy, PartialEq, Eq, Debug)]
 pub struct LimitEntry {
     pub id: u8,
     pub side: Side,
@@ -32,7 +34,7 @@ pub struct LimitEntry {
     pub condition: Condition,
 }
 
-#[derive(Clone, Copy)]
+#[derive(Clone, Copy, PartialEq, Eq, Debug)]
 pub struct OnOpenEntry {
     pub id: u8,
     pub side: Side,
@@ -40,7 +42,7 @@ pub struct OnOpenEntry {
     pub lifetime: TimeInForce,
 }
 
-#[derive(Clone, Copy)]
+#[derive(Clone, Copy, PartialEq, Eq, Debug)]
 pub struct MarketEntry {
     pub id: u8,
     pub side: Side,
@@ -50,14 +52,14 @@ pub struct MarketEntry {
 }
 
 // A limit order that is set into the book to see how it would open, and taken out again.
-#[derive(Clone, Copy)]
+#[derive(Clone, Copy, PartialEq, Eq, Debug)]
 pub struct Trial {
     pub side: Side,
     pub price: u32,
     pub lots: u32,
 }
 
-#[derive(Clone, Copy)]
+#[derive(Clone, Copy, PartialEq, Eq, Debug)]
 pub enum Call {
     EnterLimit(LimitEntry),
     EnterOnOpen(OnOpenEntry),
@@ -73,21 +75,21 @@ pub enum Call {
 }
 
 // Whether a book waits for its opening or trades.
-#[derive(Clone, Copy)]
+#[derive(Clone, Copy, PartialEq, Eq, Debug)]
 pub enum Phase {
     PreOpen,
     Open,
 }
 
 // Whether the session at hand, or the next one, is the day's or the evening's.
-#[derive(Clone, Copy)]
+#[derive(Clone, Copy, PartialEq, Eq, Debug)]
 pub enum Hours {
     Day,
     Evening,
 }
 
 // The entry's number, and its lots by what became of them.
-#[derive(Clone, Copy)]
+#[derive(Clone, Copy, PartialEq, Eq, Debug)]
 pub struct EntryAnswer {
     pub number: u32,
     pub traded: u32,
@@ -95,14 +97,14 @@ pub struct EntryAnswer {
     pub open: u32,
 }
 
-#[derive(Clone, Copy)]
+#[derive(Clone, Copy, PartialEq, Eq, Debug)]
 pub struct TrialAnswer {
     pub price: Option<u32>,
     pub volume: u32,
 }
 
 // The lots of limit orders that traded with each other, all lots bought, the lots withdrawn, and the price if there is one.
-#[derive(Clone, Copy)]
+#[derive(Clone, Copy, PartialEq, Eq, Debug)]
 pub struct OpeningAnswer {
     pub volume: u32,
     pub total: u32,
@@ -111,7 +113,7 @@ pub struct OpeningAnswer {
 }
 
 // Pairs of lots withdrawn are bids and offers.
-#[derive(Clone, Copy)]
+#[derive(Clone, Copy, PartialEq, Eq, Debug)]
 pub enum Answer {
     Entered(EntryAnswer),
     Cancelled(u32),

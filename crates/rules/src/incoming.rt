@@ -3,7 +3,7 @@ use crate::calls::Condition;
 use crate::order::{Lifetime, Side};
 
 // A market order has no limit.
-#[derive(Clone, Copy)]
+#[derive(Clone, Copy, PartialEq, Eq, Debug)]
 pub struct Incoming {
     pub number: u32,
     pub id: u8,

@@ -1,7 +1,7 @@
 // The price ladders.
 mod rungs;
 
-#[derive(Clone, Copy)]
+#[derive(Clone, Copy, PartialEq, Eq, Debug)]
 pub enum Ladder {
     Securities,
     Index,
@@ -9,7 +9,7 @@ pub enum Ladder {
 }
 
 // From a price on, prices of the ladder are multiples of the step.
-#[derive(Clone, Copy)]
+#[derive(Clone, Copy, PartialEq, Eq, Debug)]
 pub struct Rung {
     pub ladder: Ladder,
     pub from: u32,

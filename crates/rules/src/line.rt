@@ -2,14 +2,14 @@
 mod methods;
 
 // Up or down, with its successor if one is named.
-#[derive(Clone, Copy)]
+#[derive(Clone, Copy, PartialEq, Eq, Debug)]
 pub enum Line {
     Up(Option<u8>),
     Down(Option<u8>),
 }
 
 // What a line call does to a line.
-#[derive(Clone, Copy)]
+#[derive(Clone, Copy, PartialEq, Eq, Debug)]
 pub enum LineEvent {
     GoesDown,
     ComesUp,

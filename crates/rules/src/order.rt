@@ -1,28 +1,31 @@
 // An open order, and what it is made of.
 mod methods;
 
-#[derive(Clone, Copy)]
+#[derive(Clone, Copy, PartialEq, Eq, Debug, Default)]
 pub enum Side {
+    #[default]
     Bid,
     Offer,
 }
 
 // A limit order has a price; an On-Open order waits for the opening's.
-#[derive(Clone, Copy)]
+#[derive(Clone, Copy, PartialEq, Eq, Debug, Default)]
 pub enum Kind {
     Limit(u32),
+    #[default]
     OnOpen,
 }
 
 // How long an order stays open: to the evening close, to the next close, or to the evening close of a day.
-#[derive(Clone, Copy)]
+#[derive(Clone, Copy, PartialEq, Eq, Debug, Default)]
 pub enum Lifetime {
+    #[default]
     Plain,
     Gis,
     Gtc(u16),
 }
 
-#[derive(Clone, Copy)]
+#[derive(Clone, Copy, PartialEq, Eq, Debug, Default)]
 pub struct Order {
     pub number: u32,
     pub id: u8,

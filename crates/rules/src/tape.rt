@@ -1,7 +1,7 @@
 // The tape: who traded, at which price, and how much.
 use crate::order::Side;
 
-#[derive(Clone, Copy)]
+#[derive(Clone, Copy, PartialEq, Eq, Debug, Default)]
 pub struct TapeLine {
     pub number: u32,
     pub side: Side,
@@ -11,7 +11,7 @@ pub struct TapeLine {
 
 // What a trade with a level is written at: the opening price; or, for the session entry of a number, the level's own
 // price, with a line of the entry behind those of the level.
-#[derive(Clone, Copy)]
+#[derive(Clone, Copy, PartialEq, Eq, Debug)]
 pub enum Terms {
     Opening(u32),
     Entry(u32),

@@ -1,5 +1,5 @@
 -- For each call the checks it must pass, in order: the first that fails gives the refusal.
-use Rattle.std.specs.Prelude.{ℕ, ◌-◌, Bool, true, false, cond, not, ◌||◌, List, [], ◌∷◌, length, Some, None, Option, ◌==◌, nat_le, nat_lt}
+use Rattle.std.specs.Prelude.{ℕ, ◌-◌, Bool, true, false, cond, not, ◌||◌, List, [], ◌∷◌, length, find, Some, None, Option, ◌==◌, nat_le, nat_lt}
 use Rattle.rules.specs.declared.order.Order.{Order}
 use Rattle.rules.specs.declared.calls.Phase.{Phase}
 use Rattle.rules.specs.declared.calls.Phase.TheVariants.{PreOpen, Open}
@@ -76,8 +76,7 @@ used_up m = nat_lt last_number m.next
 
 -- The open order of a number, if there is one.
 abbrev pub order_of : ℕ → List Order → Option Order
-order_of n [] = None
-order_of n (o ∷ os) = cond (o.number == n) (Some o) (order_of n os)
+order_of n os = find (λ o. o.number == n) os
 
 abbrev pub missing : Option Order → Bool
 missing None = true

@@ -147,4 +147,4 @@ pub fit_book : (os : List Order) → all_fit os ≡ true → length os ≤ 256 �
 fit_book os h few = record { sound = fit_sound os h; few = few }
 
 pub table_book : (t : Table) → Book (open_orders t)
-table_book t = fit_book (open_orders t) t.fit (omega (arith, length-take-le t.count t.orders (omega arith), t.within))
+table_book t = fit_book (open_orders t) t.fit t.within

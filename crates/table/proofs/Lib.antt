@@ -1,4 +1,5 @@
 pub mod Fit
 pub mod Open
+pub mod Sums
 pub mod Taking
 pub mod Queues

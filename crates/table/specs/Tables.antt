@@ -1,6 +1,5 @@
 -- What a table, a tape and the lines hold.
-use Rattle.std.specs.Prelude.{ℕ, not, List, take, ◌==◌}
-use Rattle.std.specs.List.{prefix_len}
+use Rattle.std.specs.Prelude.{List}
 use Rattle.rules.specs.declared.order.Order.{Order}
 use Rattle.rules.specs.declared.tape.TapeLine.{TapeLine}
 use Rattle.rules.specs.declared.line.Line.{Line}
@@ -10,16 +9,12 @@ use Rattle.table.specs.declared.lines.Lines.{Lines}
 
 -- The open orders, in the order of their entry.
 abbrev pub open_orders : Table → List Order
-open_orders t = take t.count t.orders
+open_orders t = t.orders.items
 
 -- The lines, in the order of their writing.
 abbrev pub tape_lines : Tape → List TapeLine
-tape_lines t = take t.count t.lines
+tape_lines t = t.lines.items
 
 -- The line of each ID, that of ID 1 first.
 abbrev pub line_list : Lines → List Line
 line_list ls = ls.lines
-
--- Where the first order of a number stands: how many stand before it, which is all where there is none.
-abbrev pub place_of : ℕ → List Order → ℕ
-place_of n os = prefix_len (λ o. not (o.number == n)) os

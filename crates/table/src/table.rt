@@ -1,8 +1,10 @@
 // The order table, apart from its methods: a file of specs/ names it.
-ghost use Rattle.std.specs.Prelude.{◌≡◌, ◌≤◌, true, length, take};
+ghost use Rattle.std.specs.Prelude.{◌≡◌, ◌≤◌, true, length};
 ghost use Rattle.table.specs.Fits.{all_fit};
 
+use arrayvec::ArrayVec;
 use rules::calls::Hours;
+use rules::limits::MOST_ORDERS;
 use rules::order::Order;
 
 mod choice;
@@ -10,19 +12,17 @@ mod edits;
 mod reads;
 mod trades;
 
-// The first `count` places hold the open orders, in the order of their entry; each has from 1 lot to the largest volume,
-// and a limit within the range of prices.
+// The open orders, in the order of their entry; each has from 1 lot to the largest volume, and a limit within the range
+// of prices.
 #[derive(Drop)]
 pub struct Table {
-    orders: [Order; 256],
-    count: usize,
-    ghost long: { length orders ≡ 256 },
-    ghost within: { count ≤ 256 },
-    ghost fit: { all_fit (take count orders) ≡ true },
+    orders: ArrayVec<Order, MOST_ORDERS>,
+    ghost within: { length orders.items ≤ 256 },
+    ghost fit: { all_fit orders.items ≡ true },
 }
 
 // Which prices of a side are counted.
-#[derive(Clone, Copy)]
+#[derive(Clone, Copy, PartialEq, Eq, Debug)]
 pub enum Prices {
     Any,
     AsGoodAs(u32),
@@ -30,7 +30,7 @@ pub enum Prices {
 }
 
 // Which orders are withdrawn: those that do not outlive an ID's line, On-Open orders, or those that lapse at a close.
-#[derive(Clone, Copy)]
+#[derive(Clone, Copy, PartialEq, Eq, Debug)]
 pub enum Leaving {
     OfLine(u8),
     OnOpen,
@@ -38,7 +38,7 @@ pub enum Leaving {
 }
 
 // What is done to all open orders: those of a line that goes down are passed on, or On-Open orders become limit orders.
-#[derive(Clone, Copy)]
+#[derive(Clone, Copy, PartialEq, Eq, Debug)]
 pub enum Change {
     Pass { from: u8, to: u8 },
     Turn(u32),

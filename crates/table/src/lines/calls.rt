@@ -19,30 +19,24 @@ impl Lines {
     pub fn of(&self, id: u8) -> Line
         ensures { result ≡ line_of id (line_list self.now) }
     {
-        let i = id.saturating_sub(1) as usize;
-        if i < 64 {
-            self.lines[i]
-        } else {
-            Line::Up(None)
-        }
+        let i = usize::from(id.saturating_sub(1));
+        self.lines.get(i).copied().unwrap_or(Line::Up(None))
     }
 
     // Who takes over the orders of a line that goes down: its successor, if one is named and up.
     pub fn heir(&self, id: u8) -> Option<u8>
         ensures { result ≡ heir id (line_list self.now) }
     {
-        match self.of(id).successor() {
-            Some(successor) if !self.of(successor).is_down() => Some(successor),
-            _ => None,
-        }
+        self.of(id).successor().filter(|&successor| !self.of(successor).is_down())
     }
 
     // What a line call makes of the line of an ID: it keeps its successor until another is named.
     pub fn apply(&mut self, id: u8, event: LineEvent)
-        requires { (1 ≤ id) × (id ≤ 64) }
+        requires low { 1 ≤ id }
+        requires high { id ≤ 64 }
         ensures { line_list self.new ≡ moved id event (line_list self.old) }
     {
-        let i = id as usize - 1;
+        let i = usize::from(id) - 1;
         match (self.lines[i], event) {
             (Line::Up(successor), LineEvent::GoesDown) => self.lines[i] = Line::Down(successor),
             (Line::Down(successor), LineEvent::ComesUp) => self.lines[i] = Line::Up(successor),

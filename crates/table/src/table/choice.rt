@@ -35,7 +35,7 @@ impl Leaving {
     {
         match self {
             Leaving::OfLine(id) => o.drops(id),
-            Leaving::OnOpen => Kind::OnOpen.is(o.kind),
+            Leaving::OnOpen => o.kind == Kind::OnOpen,
             Leaving::AtClose { hours, today } => o.lapses(hours, today),
         }
     }
@@ -45,7 +45,7 @@ impl Leaving {
         ensures value { result ≡ withdrawn side self o }
         ensures most { result ≤ o.lots }
     {
-        if side.is(o.side) && self.takes(o) {
+        if side == o.side && self.takes(o) {
             o.lots
         } else {
             0

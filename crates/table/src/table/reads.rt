@@ -1,8 +1,8 @@
 // What is read of a table.
-ghost use Rattle.std.specs.Prelude.{◌≡◌, ◌≤◌, length};
+ghost use Rattle.std.specs.Prelude.{◌≡◌, ◌≤◌, ◌==◌, length, position};
 ghost use Rattle.rules.specs.Orders.{limits};
 ghost use Rattle.rules.specs.Checks.{order_of};
-ghost use Rattle.table.specs.Tables.{open_orders, place_of};
+ghost use Rattle.table.specs.Tables.{open_orders};
 ghost use Rattle.table.specs.Choices.{among};
 
 use super::{Prices, Table};
@@ -13,37 +13,27 @@ impl Table {
     pub fn len(&self) -> usize
         ensures { result ≡ length (open_orders self.now) }
     {
-        self.count
+        self.orders.len()
     }
 
     pub fn orders(&self) -> &[Order]
         ensures { result.now ≡ open_orders self.now }
     {
-        &self.orders[0..self.count]
+        self.orders.as_slice()
     }
 
-    // Where the open order of a number stands; behind the open orders where there is none.
-    pub(super) fn place(&self, number: u32) -> usize
-        ensures { result ≡ place_of number (open_orders self.now) }
+    // Where the open order of a number stands.
+    pub(super) fn place(&self, number: u32) -> Option<usize>
+        ensures { result ≡ position (λ o. o.number == number) (open_orders self.now) }
     {
-        for i in 0..self.count {
-            if self.orders[i].number == number {
-                return i;
-            }
-        }
-        self.count
+        self.orders.iter().position(|o| o.number == number)
     }
 
     // The open order of a number.
     pub fn find(&self, number: u32) -> Option<Order>
         ensures { result ≡ order_of number (open_orders self.now) }
     {
-        let at = self.place(number);
-        if at < self.count {
-            Some(self.orders[at])
-        } else {
-            None
-        }
+        self.orders.iter().find(|o| o.number == number).copied()
     }
 
     // The lots of the side's limit orders at some prices.
@@ -51,10 +41,6 @@ impl Table {
         ensures value { result ≡ limits side (among prices side) (open_orders self.now) }
         ensures most { result ≤ 2559744 }
     {
-        let mut sum = 0;
-        for i in 0..self.count {
-            sum += prices.counted(side, self.orders[i]);
-        }
-        sum
+        self.orders.iter().map(|o| prices.counted(side, *o)).sum()
     }
 }

@@ -3,36 +3,29 @@ ghost use Rattle.rules.specs.Trades.{line};
 ghost use Rattle.table.specs.Tables.{tape_lines};
 
 use super::Tape;
+use arrayvec::ArrayVec;
 use rules::order::Side;
 use rules::tape::TapeLine;
-
-const BLANK: TapeLine = TapeLine {
-    number: 0,
-    side: Side::Bid,
-    price: 0,
-    lots: 0,
-};
 
 impl Tape {
     pub fn new() -> Tape
         ensures { tape_lines result ≡ [] }
     {
         Tape {
-            lines: [BLANK; 512],
-            count: 0,
+            lines: ArrayVec::new(),
         }
     }
 
     pub fn lines(&self) -> &[TapeLine]
         ensures { result.now ≡ tape_lines self.now }
     {
-        &self.lines[0..self.count]
+        self.lines.as_slice()
     }
 
     pub fn clear(&mut self)
         ensures { tape_lines self.new ≡ [] }
     {
-        self.count = 0;
+        self.lines.clear();
     }
 
     // Writes a line, or none where there are no lots.
@@ -41,13 +34,12 @@ impl Tape {
         ensures { tape_lines self.new ≡ tape_lines self.old ++ line number side price lots }
     {
         if lots > 0 {
-            self.lines[self.count] = TapeLine {
+            self.lines.push(TapeLine {
                 number,
                 side,
                 price,
                 lots,
-            };
-            self.count += 1;
+            });
         }
     }
 }

@@ -1,43 +1,39 @@
-use Rattle.std.proofs.Common.{◌<◌, get_or, sym, ap, subst, arith}
-use Rattle.table.proofs.Fit.{Fits, less_fits}
-use Rattle.table.proofs.Open.{no_order, open_fits, set_long, set_fits, reduced_open, lots_behind}
+use Rattle.std.proofs.Common.{◌≡◌, ℕ, List, length, get_or, set, sym, ◌∙◌, ap, arith}
+use Rattle.std.specs.List.{refill}
+use Rattle.std.proofs.lemmas.List.{length-set}
+use Rattle.rules.specs.declared.order.Order.{Order}
+use Rattle.rules.specs.Trades.{less}
+use Rattle.rules.specs.Steps.{reduced}
+use Rattle.table.specs.Fits.{all_fit}
+use Rattle.table.specs.Tables.{open_orders}
+use Rattle.table.proofs.Fit.{fit_reduced}
+use Rattle.table.proofs.Open.{no_order, reduced_at, reduced_length, some_lots, refilled}
 use Rattle.table.proofs.table.Table.reduce.Goals as goal
-use Rattle.table.proofs.table.Table.reduce.Goals.{After-place-at}
 
--- The order is one of the open ones.
-found : (c : goal.After-place-at) → c.place-at.result < 256
-found c =
-    let t = c.args.self.now in
-    omega (arith, (lots_behind t c.args.number c.args.lots c.requires).0, c.place-at.ensures, t.within)
+written : (n k at : ℕ) (os ys : List Order) (o : Order) → ys ≡ os → reduced n k os ≡ set os at o → refill (length os) os (set ys at o) ≡ reduced n k os
+written n k at os ys o e r =
+    refilled os (set ys at o) (length-set ys at o ∙ ap length e) ∙ (ap (λ (l : List Order). set l at o) e ∙ sym r)
 
-pub bounds-self-at : goal.bounds-self-at
-bounds-self-at c = found (goal.at.bounds-self-at c).After-place-at
-
-pub offset_bounds-self-at : goal.offset_bounds-self-at
-offset_bounds-self-at c = omega (arith, found (goal.at.offset_bounds-self-at c).After-place-at)
-
-pub bounds-self-at-2 : goal.bounds-self-at-2
-bounds-self-at-2 c = found (goal.at.bounds-self-at-2 c).After-place-at
-
-pub offset_bounds-self-at-2 : goal.offset_bounds-self-at-2
-offset_bounds-self-at-2 c = omega (arith, found (goal.at.offset_bounds-self-at-2 c).After-place-at)
+pub returns-in-Some : goal.returns-in-Some
+returns-in-Some c =
+    let os = open_orders c.args.self.now in
+    let at = c.in-Some.at in
+    let read : c.less.result ≡ less (get_or os at no_order) c.args.lots = c.less.ensures ∙ ap (λ (l : List Order). less (get_or l at no_order) c.args.lots) c.deref.ensures.0 in
+    written c.args.number c.args.lots at os c.deref_mut.result.now c.less.result c.deref_mut.ensures.value
+    (reduced_at c.args.number c.args.lots os at (sym c.place.ensures ∙ c.in-Some.is) ∙ ap (set os at) (sym read))
 
 pub invariant_of-self : goal.invariant_of-self
 invariant_of-self c =
     let t = c.args.self.now in
-    let at = c.place-at.result in
-    let o = get_or t.orders at no_order in
-    let e = c.place-at.ensures in
-    let b = lots_behind t c.args.number c.args.lots c.requires in
-    let same = ap (λ i. (get_or t.orders i no_order).lots) e in
-    let fit = less_fits o c.args.lots (omega (arith, b.1, same)) (open_fits t at (omega (arith, b.0))) in
-    record { long = set_long t at c.less.result; within = t.within; fit = set_fits t at c.less.result (subst Fits (sym c.less.ensures) fit) }
+    let os = open_orders t in
+    let at = c.in-Some.at in
+    let read : c.less.result ≡ less (get_or os at no_order) c.args.lots = c.less.ensures ∙ ap (λ (l : List Order). less (get_or l at no_order) c.args.lots) c.deref.ensures.0 in
+    let is = written c.args.number c.args.lots at os c.deref_mut.result.now c.less.result c.deref_mut.ensures.value
+    (reduced_at c.args.number c.args.lots os at (sym c.place.ensures ∙ c.in-Some.is) ∙ ap (set os at) (sym read)) in
+    record {
+      within = omega (arith, ap length is, reduced_length c.args.number c.args.lots os, t.within);
+      fit = ap all_fit is ∙ fit_reduced c.args.number c.args.lots os c.requires t.fit;
+    }
 
-pub returns : goal.returns
-returns c =
-    let t = c.args.self.now in
-    let e = c.place-at.ensures in
-    let l = c.less.ensures in
-    let b = lots_behind t c.args.number c.args.lots c.requires in
-    let r = reduced_open t c.args.number c.args.lots b.0 in
-    cc
+pub returns-in_default : goal.returns-in_default
+returns-in_default c = absurd (some_lots c.args.number c.args.lots (open_orders c.args.self.now) c.requires (sym c.place.ensures ∙ c.in_default.is))

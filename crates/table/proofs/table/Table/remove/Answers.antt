@@ -1,21 +1,22 @@
-use Rattle.std.proofs.Common.{arith}
-use Rattle.table.specs.Tables.{open_orders, place_of}
-use Rattle.table.proofs.Open.{open_length, without_is, removed_past}
+use Rattle.std.proofs.Common.{sym, ◌∙◌, ap, arith}
+use Rattle.table.specs.Fits.{all_fit}
+use Rattle.table.specs.Tables.{open_orders}
+use Rattle.table.proofs.Fit.{fit_without}
+use Rattle.table.proofs.Open.{without_at, without_none}
 use Rattle.table.proofs.table.Table.remove.Goals as goal
 
-pub returns-then-at-self : goal.returns-then-at-self
-returns-then-at-self c =
-    let t = c.args.self.now in
-    let e = c.place-at.ensures in
-    let w = without_is c.args.number (open_orders t) in
-    let r = c.close_up.ensures in
-    cc
+pub invariant_of-self : goal.invariant_of-self
+invariant_of-self c =
+    let os = open_orders c.args.self.now in
+    let without = without_at c.args.number os c.in-Some.at (sym c.place.ensures ∙ c.in-Some.is) in
+    record {
+      within = omega (arith, c.remove.ensures.len, c.args.self.now.within);
+      fit = ap all_fit (c.remove.ensures.items ∙ sym without) ∙ fit_without c.args.number os c.args.self.now.fit;
+    }
 
-pub returns-else-at-self : goal.returns-else-at-self
-returns-else-at-self c =
-    let t = c.args.self.now in
-    let n = open_length t in
-    let e = c.place-at.ensures in
-    let w = without_is c.args.number (open_orders t) in
-    let p = removed_past (open_orders t) (place_of c.args.number (open_orders t)) (omega arith) in
-    cc
+pub returns-in-Some : goal.returns-in-Some
+returns-in-Some c =
+    c.remove.ensures.items ∙ sym (without_at c.args.number (open_orders c.args.self.now) c.in-Some.at (sym c.place.ensures ∙ c.in-Some.is))
+
+pub returns-in_default : goal.returns-in_default
+returns-in_default c = sym (without_none c.args.number (open_orders c.args.self.now) (sym c.place.ensures ∙ c.in_default.is))

@@ -7,7 +7,7 @@ ghost use Rattle.rules.specs.Opening.{turn};
 ghost use Rattle.rules.specs.Lines.{drops, passed};
 ghost use Rattle.rules.specs.Steps.{lapses};
 
-use super::{Kind, Lifetime, Order, Side};
+use super::{Kind, Level, Lifetime, Order, Side};
 use crate::calls::Hours;
 
 impl Side {
@@ -77,10 +77,10 @@ impl Order {
     }
 
     // Whether the order is of the level.
-    pub fn at(self, side: Side, kind: Kind) -> bool
-        ensures { result ≡ at side kind self }
+    pub fn at(self, level: Level) -> bool
+        ensures { result ≡ at level.side level.kind self }
     {
-        side.is(self.side) && kind.is(self.kind)
+        level.side == self.side && level.kind == self.kind
     }
 
     // Whether the order does not outlive the line of the ID.

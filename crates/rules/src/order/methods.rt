@@ -67,11 +67,8 @@ impl Order {
     pub fn limit(self, side: Side) -> Option<u32>
         ensures { result ≡ limit_of side self }
     {
-        if !side.is(self.side) {
-            return None;
-        }
         match self.kind {
-            Kind::Limit(x) => Some(x),
+            Kind::Limit(x) => (side == self.side).then_some(x),
             Kind::OnOpen => None,
         }
     }
@@ -87,10 +84,7 @@ impl Order {
     pub fn drops(self, id: u8) -> bool
         ensures { result ≡ drops id self }
     {
-        match self.lifetime {
-            Lifetime::Gtc(_) => false,
-            _ => self.id == id,
-        }
+        self.id == id && !matches!(self.lifetime, Lifetime::Gtc(_))
     }
 
     // Whether the order is withdrawn by a close.

@@ -1,5 +1,5 @@
 -- The price ladders: a table of rungs, and the prices that a ladder takes.
-use Rattle.std.specs.Prelude.{ℕ, ◌%◌, Bool, true, false, cond, ◌&&◌, List, [], ◌∷◌, ◌==◌, nat_le}
+use Rattle.std.specs.Prelude.{ℕ, ◌%◌, Bool, true, false, cond, ◌&&◌, List, [], ◌∷◌, ◌==◌, fold, nat_le}
 use Rattle.rules.specs.declared.ladder.Ladder.{Ladder}
 use Rattle.rules.specs.declared.ladder.Ladder.TheVariants.{Securities, Index, Bond}
 use Rattle.rules.specs.declared.ladder.Rung.{Rung}
@@ -36,8 +36,7 @@ rungs =
 
 -- The step at a price: that of the ladder's last rung at or below it; before the first rung, the step given.
 abbrev pub step_among : Ladder → ℕ → ℕ → List Rung → ℕ
-step_among ladder x step [] = step
-step_among ladder x step (r ∷ rs) = step_among ladder x (cond (same_ladder ladder r.ladder && nat_le r.from x) r.step step) rs
+step_among ladder x start rs = fold (λ step r. cond (same_ladder ladder r.ladder && nat_le r.from x) r.step step) start rs
 
 abbrev pub step_at : Ladder → ℕ → ℕ
 step_at ladder x = step_among ladder x 1 rungs

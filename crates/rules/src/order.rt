@@ -16,6 +16,13 @@ pub enum Kind {
     OnOpen,
 }
 
+// The orders of a side at one price, or its On-Open orders.
+#[derive(Clone, Copy, PartialEq, Eq, Debug)]
+pub struct Level {
+    pub side: Side,
+    pub kind: Kind,
+}
+
 // How long an order stays open: to the evening close, to the next close, or to the evening close of a day.
 #[derive(Clone, Copy, PartialEq, Eq, Debug, Default)]
 pub enum Lifetime {

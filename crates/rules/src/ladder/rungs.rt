@@ -63,7 +63,7 @@ impl Rung {
     fn step_from(self, ladder: Ladder, price: u32, step: u32) -> u32
         ensures { result ≡ (if same_ladder ladder self.ladder && nat_le self.from price then self.step else step) }
     {
-        if ladder.is(self.ladder) && self.from <= price {
+        if ladder == self.ladder && self.from <= price {
             self.step
         } else {
             step
@@ -72,36 +72,20 @@ impl Rung {
 }
 
 impl Ladder {
-    fn is(self, other: Ladder) -> bool
-        ensures { result ≡ same_ladder self other }
-    {
-        match (self, other) {
-            (Ladder::Securities, Ladder::Securities) => true,
-            (Ladder::Index, Ladder::Index) => true,
-            (Ladder::Bond, Ladder::Bond) => true,
-            _ => false,
-        }
-    }
-
     // The step at a price: that of the last rung at or below it.
     fn step_among(self, price: u32, rungs: &[Rung]) -> u32
         ensures { result ≡ step_among self price 1 rungs.now }
     {
-        let mut step = 1;
-        for rung in rungs {
-            step = rung.step_from(self, price, step);
-        }
-        step
+        rungs
+            .iter()
+            .fold(1, |step, rung| rung.step_from(self, price, step))
     }
 
     // Whether the ladder takes a price.
     pub fn takes(self, price: u32) -> bool
         ensures { result ≡ takes self price }
     {
-        if price < LOWEST_PRICE || price > HIGHEST_PRICE {
-            return false;
-        }
         let step = self.step_among(price, &RUNGS);
-        price % step == 0
+        (LOWEST_PRICE..=HIGHEST_PRICE).contains(&price) && price % step == 0
     }
 }

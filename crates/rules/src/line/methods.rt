@@ -8,18 +8,14 @@ impl Line {
     pub fn is_down(self) -> bool
         ensures { result ≡ is_down self }
     {
-        match self {
-            Line::Up(_) => false,
-            Line::Down(_) => true,
-        }
+        matches!(self, Line::Down(_))
     }
 
     pub fn successor(self) -> Option<u8>
         ensures { result ≡ successor_of self }
     {
         match self {
-            Line::Up(successor) => successor,
-            Line::Down(successor) => successor,
+            Line::Up(successor) | Line::Down(successor) => successor,
         }
     }
 }

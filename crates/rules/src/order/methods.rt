@@ -7,7 +7,7 @@ ghost use Rattle.rules.specs.Opening.{turn};
 ghost use Rattle.rules.specs.Lines.{drops, passed};
 ghost use Rattle.rules.specs.Steps.{lapses};
 
-use super::{Kind, Lifetime, Order, Side};
+use super::{Kind, Level, Lifetime, Order, Side};
 use crate::calls::Hours;
 
 impl Side {
@@ -67,30 +67,24 @@ impl Order {
     pub fn limit(self, side: Side) -> Option<u32>
         ensures { result ≡ limit_of side self }
     {
-        if !side.is(self.side) {
-            return None;
-        }
         match self.kind {
-            Kind::Limit(x) => Some(x),
+            Kind::Limit(x) => (side == self.side).then_some(x),
             Kind::OnOpen => None,
         }
     }
 
     // Whether the order is of the level.
-    pub fn at(self, side: Side, kind: Kind) -> bool
-        ensures { result ≡ at side kind self }
+    pub fn at(self, level: Level) -> bool
+        ensures { result ≡ at level.side level.kind self }
     {
-        side.is(self.side) && kind.is(self.kind)
+        level.side == self.side && level.kind == self.kind
     }
 
     // Whether the order does not outlive the line of the ID.
     pub fn drops(self, id: u8) -> bool
         ensures { result ≡ drops id self }
     {
-        match self.lifetime {
-            Lifetime::Gtc(_) => false,
-            _ => self.id == id,
-        }
+        self.id == id && !matches!(self.lifetime, Lifetime::Gtc(_))
     }
 
     // Whether the order is withdrawn by a close.

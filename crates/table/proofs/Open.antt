@@ -1,8 +1,8 @@
 -- Orders by their places: the first of a number, and what a walk over the orders has read.
-use Rattle.std.proofs.Common.{◌≡◌, ℕ, suc, ◌+◌, ◌<◌, ◌≤◌, Bool, true, false, cond, not, eqb, ltb, List, [], ◌∷◌, ◌++◌, length, get_or, take, drop, set, Some, None, Option, sym, refl, ap, ◌∙◌, add-zero, one-add, arith}
+use Rattle.std.proofs.Common.{◌≡◌, ℕ, suc, ◌+◌, ◌<◌, ◌≤◌, Bool, true, false, cond, not, eqb, ltb, List, [], ◌∷◌, ◌++◌, map, length, get_or, take, drop, set, Some, None, Option, sym, refl, ap, ◌∙◌, add-zero, one-add, arith}
 use Rattle.std.specs.List.{remove, position, position_or_len, refill}
-use Rattle.std.proofs.lemmas.List.{get_or-drop, drop-drop, take_all, drop_all, append-nil}
-use Rattle.std.proofs.lemmas.Bool.{cases_lt, ltb-true, ltb-false}
+use Rattle.std.proofs.lemmas.List.{get_or-drop, drop-drop, take_all, drop_all, append-nil, length-map}
+use Rattle.std.proofs.lemmas.Bool.{ltb-true, ltb-false}
 use Rattle.std.proofs.lemmas.Option.{cond_some}
 use Rattle.rules.specs.declared.order.Order.{Order}
 use Rattle.rules.specs.declared.order.Side.TheVariants.{Bid}
@@ -120,3 +120,12 @@ refilled xs ys e =
     let all : take (length xs) ys ≡ ys = take_all (length xs) ys (omega arith) in
     let none = append-nil ys in
     cc
+
+-- At the end of a loop that changes the elements one by one, all are changed.
+pub all_changed : {X : Type 0} (f : X → X) (os xs ys : List X) (i : ℕ) → xs ≡ os → length xs ≤ i → ys ≡ map f (take i xs) ++ drop i xs → refill (length os) os ys ≡ map f os
+all_changed f os xs ys i e past front =
+    let all : take i xs ≡ xs = take_all i xs past in
+    let none : drop i xs ≡ [] = drop_all i xs past in
+    let end = append-nil (map f xs) in
+    let is : ys ≡ map f os = cc in
+    refilled os ys (ap length is ∙ length-map os f) ∙ is

@@ -1,7 +1,9 @@
 -- The levels of a book are queues that a policy answers.
-use Rattle.std.proofs.Common.{◌≡◌, ℕ, ◌≤◌, List, length, arith}
+use Rattle.std.proofs.Common.{◌≡◌, ℕ, ◌+◌, ◌<◌, ◌≤◌, true, false, List, [], ◌∷◌, ◌++◌, map, length, get_or, take, sym, ap, ◌∙◌, arith}
 use Rattle.std.proofs.ByRecursion.{all_kept_by, All-map, All-weaker}
-use Rattle.std.proofs.lemmas.List.{length-map}
+use Rattle.std.proofs.lemmas.Bool.{cond-true, cond-false}
+use Rattle.std.proofs.lemmas.List.{length-map, length-take, map-append, append-nil, take_all}
+use Rattle.std.proofs.lemmas.List.Elements.{filter_more}
 use Rattle.std.proofs.lemmas.List.Sums.{length-filter, count_by-le-length}
 use Rattle.policy.specs.Queue.{Queue, most_lots}
 use Rattle.rules.specs.declared.order.Order.{Order}
@@ -29,3 +31,27 @@ book_queue s k os b =
 
 pub table_queue : (t : Table) (s : Side) (k : Kind) → Queue (queue s k (open_orders t))
 table_queue t s k = book_queue s k (open_orders t) (table_book t)
+
+-- ---- the loop that gathers a queue
+
+module _ (s : Side) (k : Kind) (os : List Order) (i : ℕ) (d : Order) (in' : i < length os) where
+  pub queue_more_yes : at s k (get_or os i d) ≡ true → (xs : List ℕ) → xs ≡ queue s k (take i os) → xs ++ (get_or os i d).lots ∷ [] ≡ queue s k (take (i + 1) os)
+  queue_more_yes on xs e =
+      let more : level s k (take (i + 1) os) ≡ level s k (take i os) ++ get_or os i d ∷ [] =
+      filter_more (at s k) os i d in' ∙ ap (λ l. level s k (take i os) ++ l) (cond-true (at s k (get_or os i d)) _ _ on) in
+      let both = map-append (λ (o : Order). o.lots) (level s k (take i os)) (get_or os i d ∷ []) in
+      let all = ap (map (λ (o : Order). o.lots)) more in
+      let first = ap (λ (l : List ℕ). l ++ (get_or os i d).lots ∷ []) e in
+      first ∙ sym (all ∙ both)
+
+  pub queue_more_no : at s k (get_or os i d) ≡ false → (xs : List ℕ) → xs ≡ queue s k (take i os) → xs ≡ queue s k (take (i + 1) os)
+  queue_more_no off xs e =
+      let more : level s k (take (i + 1) os) ≡ level s k (take i os) =
+      filter_more (at s k) os i d in' ∙ ap (λ l. level s k (take i os) ++ l) (cond-false (at s k (get_or os i d)) _ _ off) ∙ append-nil (level s k (take i os)) in
+      e ∙ sym (ap (map (λ (o : Order). o.lots)) more)
+
+pub queue_within : (s : Side) (k : Kind) (i : ℕ) (os : List Order) → length (queue s k (take i os)) ≤ i
+queue_within s k i os = omega (arith, queue_length s k (take i os), level_few s k (take i os), length-take i os)
+
+pub queue_end : (s : Side) (k : Kind) (os ys : List Order) (i : ℕ) (xs : List ℕ) → ys ≡ os → length ys ≤ i → xs ≡ queue s k (take i ys) → xs ≡ queue s k os
+queue_end s k os ys i xs e past h = h ∙ ap (queue s k) (take_all i ys past ∙ e)

@@ -1,6 +1,6 @@
 -- The loop that takes the shares off a level, one order at a time.
-use Rattle.std.proofs.Common.{◌≡◌, ℕ, ◌+◌, ◌<◌, ◌≤◌, Bool, true, false, ltb, List, [], ◌∷◌, ◌++◌, map, length, get_or, take, drop, set, sym, refl, ap, ◌∙◌, arith}
-use Rattle.std.proofs.lemmas.List.{take_more, take_more_set, append_assoc, at_drop_more, drop_more, drop-drop, length-drop, length-append, drop-set-lt, length-set}
+use Rattle.std.proofs.Common.{◌≡◌, ℕ, suc, ◌+◌, ◌<◌, ◌≤◌, Bool, true, false, ltb, List, [], ◌∷◌, ◌++◌, map, length, get_or, take, drop, set, sym, refl, ap, ◌∙◌, subst, arith}
+use Rattle.std.proofs.lemmas.List.{take_more, take_more_set, append_assoc, at_drop_more, drop_more, length-append, drop-set-lt, length-set, nil_from_length}
 use Rattle.std.proofs.lemmas.Bool.{cond-true, cond-false, cond_both}
 use Rattle.policy.specs.Fair.{Within}
 use Rattle.rules.specs.declared.order.Order.{Order}
@@ -12,20 +12,19 @@ use Rattle.rules.specs.Trades.{less, taken, line, lines}
 use Rattle.table.proofs.Open.{read_same, drop_next}
 
 -- What is taken, and what is left to take: os is the list at the loop's start, and ys the list as it is.
-pub record Taking (s : Side) (k : Kind) (shares : List ℕ) (os ys : List Order) (i next : ℕ) : Type 0 where
-  pub front : take i ys ++ taken s k (drop next shares) (drop i os) ≡ taken s k shares os
+pub record Taking (s : Side) (k : Kind) (shares : List ℕ) (os ys : List Order) (i : ℕ) (left : List ℕ) : Type 0 where
+  pub front : take i ys ++ taken s k left (drop i os) ≡ taken s k shares os
   pub rest : drop i ys ≡ drop i os
   pub long : length ys ≡ length os
-  pub covered : Within (queue s k (drop i os)) (drop next shares)
+  pub covered : Within (queue s k (drop i os)) left
 
 -- What is written, and what is left to write.
-pub record Writing (s : Side) (k : Kind) (p : ℕ) (shares : List ℕ) (os : List Order) (before tape : List TapeLine) (i next : ℕ) : Type 0 where
-  pub written : tape ++ lines p (level s k (drop i os)) (drop next shares) ≡ before ++ lines p (level s k os) shares
-  pub room : length tape + length (drop next shares) ≤ 512
+pub record Writing (s : Side) (k : Kind) (p : ℕ) (shares : List ℕ) (os : List Order) (before tape : List TapeLine) (i : ℕ) (left : List ℕ) : Type 0 where
+  pub written : tape ++ lines p (level s k (drop i os)) left ≡ before ++ lines p (level s k os) shares
+  pub room : length tape + length left ≤ 512
 
-within_first : (q : ℕ) (qs gs : List ℕ) → Within (q ∷ qs) gs → (0 < length gs) × Within qs (drop 1 gs)
-within_first q qs [] h = absurd h
-within_first q qs (g ∷ gs) h = (omega arith, h.1)
+within_rest : (q : ℕ) (qs : List ℕ) (g : ℕ) (gs : List ℕ) → Within (q ∷ qs) (g ∷ gs) → Within qs gs
+within_rest q qs g gs h = h.1
 
 taken_none : (s : Side) (k : Kind) (os : List Order) → taken s k [] os ≡ os
 taken_none s k [] = refl
@@ -38,6 +37,14 @@ taken_no s k (g ∷ gs) o os off = cond-false (at s k o) _ _ off
 
 pub taken_yes : (s : Side) (k : Kind) (g : ℕ) (gs : List ℕ) (o : Order) (os : List Order) → at s k o ≡ true → taken s k (g ∷ gs) (o ∷ os) ≡ less o g ∷ taken s k gs os
 taken_yes s k g gs o os on = cond-true (at s k o) _ _ on
+
+-- As many orders as before.
+pub taken_length : (s : Side) (k : Kind) (gs : List ℕ) (os : List Order) → length (taken s k gs os) ≡ length os
+taken_length s k gs [] = refl
+taken_length s k [] (o ∷ os) = refl
+taken_length s k (g ∷ gs) (o ∷ os) = cond_both (at s k o) (less o g ∷ taken s k gs os) (o ∷ taken s k (g ∷ gs) os) (λ l. length l ≡ suc (length os))
+    (λ _. omega (arith, taken_length s k gs os))
+    (λ _. omega (arith, taken_length s k (g ∷ gs) os))
 
 pub short_line : (number : ℕ) (s : Side) (p lots : ℕ) → length (line number s p lots) ≤ 1
 short_line number s p lots = cond_both (ltb 0 lots) _ _ (λ (l : List TapeLine). length l ≤ 1) (λ e. omega arith) (λ e. omega arith)
@@ -56,26 +63,26 @@ module _ (s : Side) (k : Kind) (os : List Order) (i : ℕ) (d : Order) (in' : i 
   level_no : at s k (get_or os i d) ≡ false → level s k (drop i os) ≡ level s k (drop (i + 1) os)
   level_no off = at_drop_more (level s k) os i d in' ∙ cond-false (at s k (get_or os i d)) _ _ off
 
-  -- The level's next order has a share, and those behind it have theirs.
-  pub share_at : (shares : List ℕ) (next : ℕ) → Within (queue s k (drop i os)) (drop next shares) → at s k (get_or os i d) ≡ true → (next < length shares) × Within (queue s k (drop (i + 1) os)) (drop (next + 1) shares)
-  share_at shares next h on =
-      let here : Within ((get_or os i d).lots ∷ queue s k (drop (i + 1) os)) (drop next shares) = rw (ap (map (λ (o : Order). o.lots)) (level_yes on)) at h in
-      let f = within_first (get_or os i d).lots (queue s k (drop (i + 1) os)) (drop next shares) here in
-      (omega (arith, f.0, length-drop next shares), rw (drop-drop 1 next shares) at f.1)
+  level_queue : at s k (get_or os i d) ≡ true → queue s k (drop i os) ≡ (get_or os i d).lots ∷ queue s k (drop (i + 1) os)
+  level_queue on = ap (map (λ (o : Order). o.lots)) (level_yes on)
+
+  -- The level's next order has a share.
+  pub some_share : (left : List ℕ) → Within (queue s k (drop i os)) left → at s k (get_or os i d) ≡ true → left ≡ [] → ⊥
+  some_share left h on none =
+      let here : Within ((get_or os i d).lots ∷ queue s k (drop (i + 1) os)) left = rw (level_queue on) at h in
+      let w : Within ((get_or os i d).lots ∷ queue s k (drop (i + 1) os)) [] = rw none at here in
+      w
 
   -- The order that is read is the one that stood there.
-  pub read_at : (shares : List ℕ) (ys : List Order) (next : ℕ) (b : Bool) → Taking s k shares os ys i next → at s k (get_or ys i d) ≡ b → at s k (get_or os i d) ≡ b
-  read_at shares ys next b t e = ap (at s k) (sym (read_same os ys i d t.rest)) ∙ e
+  pub read_at : (shares left : List ℕ) (ys : List Order) (b : Bool) → Taking s k shares os ys i left → at s k (get_or ys i d) ≡ b → at s k (get_or os i d) ≡ b
+  read_at shares left ys b t e = ap (at s k) (sym (read_same os ys i d t.rest)) ∙ e
 
-  pub share_now : (shares : List ℕ) (ys : List Order) (next : ℕ) → Taking s k shares os ys i next → at s k (get_or ys i d) ≡ true → next < length shares
-  share_now shares ys next t on = (share_at shares next t.covered (read_at shares ys next true t on)).0
-
-  pub taking_no : (shares : List ℕ) (ys : List Order) (next : ℕ) → Taking s k shares os ys i next → at s k (get_or os i d) ≡ false → Taking s k shares os ys (i + 1) next
-  taking_no shares ys next t off =
-      let one = ap (taken s k (drop next shares)) (drop_more os i d in') ∙ taken_no s k (drop next shares) (get_or os i d) (drop (i + 1) os) off in
+  pub taking_no : (shares left : List ℕ) (ys : List Order) → Taking s k shares os ys i left → at s k (get_or os i d) ≡ false → Taking s k shares os ys (i + 1) left
+  taking_no shares left ys t off =
+      let one = ap (taken s k left) (drop_more os i d in') ∙ taken_no s k left (get_or os i d) (drop (i + 1) os) off in
       let same = read_same os ys i d t.rest in
       let more = take_more ys i d (omega (arith, t.long)) in
-      let assoc = append_assoc (take i ys) (get_or ys i d ∷ []) (taken s k (drop next shares) (drop (i + 1) os)) in
+      let assoc = append_assoc (take i ys) (get_or ys i d ∷ []) (taken s k left (drop (i + 1) os)) in
       record {
         front = (let f = t.front in cc);
         rest = drop_next os ys i t.rest;
@@ -83,39 +90,56 @@ module _ (s : Side) (k : Kind) (os : List Order) (i : ℕ) (d : Order) (in' : i 
         covered = rw (ap (map (λ (o : Order). o.lots)) (level_no off)) at t.covered;
       }
 
-  pub taking_yes : (shares : List ℕ) (ys : List Order) (next : ℕ) → Taking s k shares os ys i next → at s k (get_or os i d) ≡ true → Taking s k shares os (set ys i (less (get_or ys i d) (get_or shares next 0))) (i + 1) (next + 1)
-  taking_yes shares ys next t on =
-      let share = share_at shares next t.covered on in
-      let g = get_or shares next 0 in
+  pub taking_yes : (shares : List ℕ) (g : ℕ) (gs : List ℕ) (ys : List Order) → Taking s k shares os ys i (g ∷ gs) → at s k (get_or os i d) ≡ true → Taking s k shares os (set ys i (less (get_or ys i d) g)) (i + 1) gs
+  taking_yes shares g gs ys t on =
       let y = less (get_or ys i d) g in
       let same = read_same os ys i d t.rest in
-      let left = drop_more shares next 0 share.0 in
-      let one = ap (taken s k (drop next shares)) (drop_more os i d in') in
-      let two = ap (λ gs. taken s k gs (get_or os i d ∷ drop (i + 1) os)) left in
-      let three = taken_yes s k g (drop (next + 1) shares) (get_or os i d) (drop (i + 1) os) on in
+      let one = ap (taken s k (g ∷ gs)) (drop_more os i d in') in
+      let two = taken_yes s k g gs (get_or os i d) (drop (i + 1) os) on in
       let new = ap (λ (o : Order). less o g) same in
       let more = take_more_set ys i y (omega (arith, t.long)) in
-      let assoc = append_assoc (take i ys) (y ∷ []) (taken s k (drop (next + 1) shares) (drop (i + 1) os)) in
+      let assoc = append_assoc (take i ys) (y ∷ []) (taken s k gs (drop (i + 1) os)) in
       record {
         front = (let f = t.front in cc);
         rest = drop-set-lt (i + 1) ys i y (omega arith) ∙ drop_next os ys i t.rest;
         long = length-set ys i y ∙ t.long;
-        covered = share.1;
+        covered = within_rest (get_or os i d).lots (queue s k (drop (i + 1) os)) g gs (rw (level_queue on) at t.covered);
       }
 
-  pub writing_no : (p : ℕ) (shares : List ℕ) (before tape : List TapeLine) (next : ℕ) → Writing s k p shares os before tape i next → at s k (get_or os i d) ≡ false → Writing s k p shares os before tape (i + 1) next
-  writing_no p shares before tape next w off =
-      let one = ap (λ l. tape ++ lines p l (drop next shares)) (level_no off) in
+  pub writing_no : (p : ℕ) (shares left : List ℕ) (before tape : List TapeLine) → Writing s k p shares os before tape i left → at s k (get_or os i d) ≡ false → Writing s k p shares os before tape (i + 1) left
+  writing_no p shares left before tape w off =
+      let one = ap (λ l. tape ++ lines p l left) (level_no off) in
       record { written = sym one ∙ w.written; room = w.room }
 
-  pub writing_yes : (p : ℕ) (shares : List ℕ) (before tape : List TapeLine) (next : ℕ) → Writing s k p shares os before tape i next → at s k (get_or os i d) ≡ true → next < length shares → Writing s k p shares os before (tape ++ line (get_or os i d).number (get_or os i d).side p (get_or shares next 0)) (i + 1) (next + 1)
-  writing_yes p shares before tape next w on some =
+  pub writing_yes : (p : ℕ) (shares : List ℕ) (g : ℕ) (gs : List ℕ) (before tape : List TapeLine) → Writing s k p shares os before tape i (g ∷ gs) → at s k (get_or os i d) ≡ true → Writing s k p shares os before (tape ++ line (get_or os i d).number (get_or os i d).side p g) (i + 1) gs
+  writing_yes p shares g gs before tape w on =
       let o = get_or os i d in
-      let new = line o.number o.side p (get_or shares next 0) in
-      let later = lines p (level s k (drop (i + 1) os)) (drop (next + 1) shares) in
-      let one : lines p (level s k (drop i os)) (drop next shares) ≡ new ++ later =
-      ap (λ l. lines p l (drop next shares)) (level_yes on) ∙ ap (λ gs. lines p (o ∷ level s k (drop (i + 1) os)) gs) (drop_more shares next 0 some) in
+      let new = line o.number o.side p g in
+      let later = lines p (level s k (drop (i + 1) os)) gs in
+      let one : lines p (level s k (drop i os)) (g ∷ gs) ≡ new ++ later = ap (λ l. lines p l (g ∷ gs)) (level_yes on) in
       record {
         written = append_assoc tape new later ∙ ap (λ l. tape ++ l) (sym one) ∙ w.written;
-        room = omega (arith, w.room, length-append tape new, short_line o.number o.side p (get_or shares next 0), length-drop next shares, length-drop (next + 1) shares);
+        room = omega (arith, w.room, length-append tape new, short_line o.number o.side p g);
       }
+
+  -- One turn of the loop: an order of the level takes the first share that is left, another passes.
+  pub turn_yes : (p : ℕ) (shares left : List ℕ) (g : ℕ) (gs : List ℕ) (ys : List Order) (before tape now : List TapeLine) (y : Order) → left ≡ g ∷ gs → y ≡ less (get_or ys i d) g → now ≡ tape ++ line (get_or ys i d).number (get_or ys i d).side p g → at s k (get_or ys i d) ≡ true →
+      Taking s k shares os ys i left × Writing s k p shares os before tape i left → Taking s k shares os (set ys i y) (i + 1) gs × Writing s k p shares os before now (i + 1) gs
+  turn_yes p shares left g gs ys before tape now y cut took wrote on h =
+      let t = subst (Taking s k shares os ys i) cut h.0 in
+      let w = subst (Writing s k p shares os before tape i) cut h.1 in
+      let on0 = read_at shares (g ∷ gs) ys true t on in
+      let same = ap (λ (o : Order). tape ++ line o.number o.side p g) (read_same os ys i d t.rest) in (
+        subst (λ (z : Order). Taking s k shares os (set ys i z) (i + 1) gs) (sym took) (taking_yes shares g gs ys t on0),
+        subst (λ (l : List TapeLine). Writing s k p shares os before l (i + 1) gs) (sym (wrote ∙ same)) (writing_yes p shares g gs before tape w on0),
+      )
+
+  pub turn_no : (p : ℕ) (shares left : List ℕ) (ys : List Order) (before tape : List TapeLine) → at s k (get_or ys i d) ≡ false →
+      Taking s k shares os ys i left × Writing s k p shares os before tape i left → Taking s k shares os ys (i + 1) left × Writing s k p shares os before tape (i + 1) left
+  turn_no p shares left ys before tape off h =
+      let off0 = read_at shares left ys false h.0 off in
+      (taking_no shares left ys h.0 off0, writing_no p shares left before tape h.1 off0)
+
+  -- An order of the level finds a share.
+  pub share_left : (shares left : List ℕ) (ys : List Order) → Taking s k shares os ys i left → at s k (get_or ys i d) ≡ true → length left ≡ 0 → ⊥
+  share_left shares left ys t on none = some_share left t.covered (read_at shares left ys true t on) (nil_from_length left none)

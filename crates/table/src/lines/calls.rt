@@ -27,7 +27,9 @@ impl Lines {
     pub fn heir(&self, id: u8) -> Option<u8>
         ensures { result ≡ heir id (line_list self.now) }
     {
-        self.of(id).successor().filter(|&successor| !self.of(successor).is_down())
+        self.of(id)
+            .successor()
+            .filter(|&successor| !self.of(successor).is_down())
     }
 
     // What a line call makes of the line of an ID: it keeps its successor until another is named.

@@ -1,6 +1,8 @@
 // What changes a table.
-ghost use Rattle.std.specs.Prelude.{◌≡◌, ◌<◌, true, not, [], ◌∷◌, ◌++◌, map, length, take, filter};
+ghost use Rattle.std.specs.Prelude.{◌≡◌, ◌<◌, true, not, ◌&&◌, [], ◌∷◌, ◌++◌, map, length, take, filter};
 ghost use Rattle.std.specs.List.{remove};
+ghost use Rattle.rules.specs.Orders.{held};
+ghost use Rattle.rules.specs.Sides.{is};
 ghost use Rattle.rules.specs.Checks.{order_of, open_lots};
 ghost use Rattle.rules.specs.Steps.{without, reduced, pair_of};
 ghost use Rattle.table.specs.Fits.{fits};
@@ -56,13 +58,20 @@ impl Table {
         }
     }
 
+    // The lots of a side's orders that leave.
+    fn leaving_lots(&self, leaving: Leaving, side: Side) -> u32
+        ensures { result ≡ held (λ o. is side o.side && leaves leaving o) (open_orders self.now) }
+    {
+        self.orders.iter().map(|o| leaving.lots(side, *o)).sum()
+    }
+
     // Withdraws the orders that leave, and answers their lots, of bids and of offers.
     pub fn withdraw(&mut self, leaving: Leaving) -> (u32, u32)
         ensures orders { open_orders self.new ≡ filter (λ o. not (leaves leaving o)) (open_orders self.old) }
         ensures lots { result ≡ pair_of (leaves leaving) (open_orders self.old) }
     {
-        let bids = self.orders.iter().map(|o| leaving.lots(Side::Bid, *o)).sum();
-        let offers = self.orders.iter().map(|o| leaving.lots(Side::Offer, *o)).sum();
+        let bids = self.leaving_lots(leaving, Side::Bid);
+        let offers = self.leaving_lots(leaving, Side::Offer);
         self.orders.retain(|o| !leaving.takes(*o));
         (bids, offers)
     }

@@ -31,7 +31,7 @@ fn take_off(orders: &mut [Order], level: Level, shares: &[u32], price: u32, tape
     let mut left = shares;
     for o in orders.iter_mut() {
         if o.at(level) {
-            if let [share, rest @ ..] = left {
+            if let Some((share, rest)) = left.split_first() {
                 *o = trade(*o, *share, price, tape);
                 left = rest;
             }

@@ -1,8 +1,6 @@
-use Rattle.std.proofs.Common.{◌≡◌, ◌<◌, ◌≤◌, length, sym, ◌∙◌, arith, rules}
+use Rattle.std.proofs.Common.{◌≡◌, ◌<◌, sym, ◌∙◌, arith, rules}
 use Rattle.std.specs.List.{sum_by}
-use Rattle.rules.specs.Orders.{priced}
-use Rattle.rules.specs.Sides.{is}
-use Rattle.table.specs.Choices.{among, counted}
+use Rattle.table.specs.Choices.{counted}
 use Rattle.table.specs.Tables.{open_orders}
 use Rattle.table.proofs.Sums.{held_sum, part_le, parts_few}
 use Rattle.table.proofs.table.Table.lots.Goals as goal

@@ -4,5 +4,5 @@ use Rattle.policy.specs.ProRatas.{dealing}
 use Rattle.policy.proofs.pro_rata.Rate.deal.Given as goal
 
 -- What is written, and what the rule gives the rest.
-abbrev pub invariant-loop-i : goal.invariant-loop-i
-invariant-loop-i l = take l.i l.shares ++ dealing l.self.held l.self.lots l.left (drop l.i l.queue) ≡ dealt l.self.held l.self.lots l.initial.left 0 l.queue
+abbrev pub invariant-loop-place : goal.invariant-loop-place
+invariant-loop-place l = take l.place-index l.places ++ dealing l.self.held l.self.lots l.left (drop l.place-index l.places) ≡ dealt l.self.held l.self.lots l.initial.left 0 l.initial.places

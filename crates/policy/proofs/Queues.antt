@@ -34,5 +34,7 @@ small_total [] h = omega arith
 small_total (x ∷ xs) h = omega (arith, h.0, small_total xs h.1)
 
 -- a queue's lots are few enough for every sum of the code
-pub queue_total : (q : List ℕ) → Queue q → total q ≤ most_places * most_lots
-queue_total q h = omega (arith, h.few, small_total q h.small)
+pub answered_total : (q : List ℕ) (n : ℕ) → answered q n ≡ true → total q ≤ most_places * most_lots
+answered_total q n h =
+    let queue = answered_queue q n h in
+    omega (arith, queue.few, small_total q queue.small)

@@ -1,5 +1,6 @@
 -- The rule of a policy that is chosen when the program runs. Assumes nothing.
-use Rattle.std.specs.Prelude.{◌≡◌, ℕ, zero, suc, ◌<◌, ◌≤◌, List, [], ◌∷◌, length, Some, None, Option}
+use Rattle.std.specs.Prelude.{◌≡◌, ℕ, ◌<◌, ◌≤◌, List, [], ◌∷◌, length, Some, None, Option}
+use Rattle.std.specs.List.{slice_get}
 use Rattle.policy.specs.Fair.{Rule}
 use Rattle.policy.specs.PriceTime.{price_time}
 use Rattle.policy.specs.ProRata.{pro_rata}
@@ -17,11 +18,14 @@ abbrev pub layered_rule : {P : Type 0} → (P → Rule) → Layered P → Rule
 layered_rule below (Plain p) = below p
 layered_rule below (Favoured f) = favour f.«cap» f.minimum (below f.below)
 
+-- The favour, if there is one, over the policy below.
+abbrev pub over : {P : Type 0} → P → Option (ℕ × ℕ) → Layered P
+over p None = Plain p
+over p (Some f) = Favoured (record { «cap» = f.0; minimum = f.1; below = p })
+
 -- The favour at the place, if there is one, over the policy below.
 abbrev pub laid : {P : Type 0} → P → List (ℕ × ℕ) → ℕ → Layered P
-laid p [] place = Plain p
-laid p (f ∷ fs) zero = Favoured (record { «cap» = f.0; minimum = f.1; below = p })
-laid p (f ∷ fs) (suc place) = laid p fs place
+laid p fs place = over p (slice_get fs place)
 
 abbrev pub Chosen : Type 0
 Chosen = Layered (Layered (Layered (Layered Base)))

@@ -54,15 +54,14 @@ pub type Chosen = Layered<Layered<Layered<Layered<Base>>>>;
 fn lay<P>(below: P, favours: &[(u32, u32)], place: usize) -> Layered<P>
     ensures { result ≡ laid below favours.now place }
 {
-    if place >= favours.len() {
-        return Layered::Plain(below);
+    match favours.get(place) {
+        Some(&(cap, minimum)) => Layered::Favoured(Favour {
+            cap,
+            minimum,
+            below,
+        }),
+        None => Layered::Plain(below),
     }
-    let (cap, minimum) = favours[place];
-    Layered::Favoured(Favour {
-        cap,
-        minimum,
-        below,
-    })
 }
 
 // The base with favours over it, each a cap and a minimum, the outermost first; none where they are too many.

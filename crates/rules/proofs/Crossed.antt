@@ -1,5 +1,6 @@
 -- The stages, one by one.
-use Rattle.std.proofs.Common.{◌≡◌, ℕ, suc, ◌+◌, ◌-◌, ◌≤◌, min, Bool, true, false, cond, ◌&&◌, eqb, List, [], ◌∷◌, map, length, refl, ap, ◌∙◌, arith}
+use Rattle.std.proofs.Common.{◌≡◌, ℕ, ◌+◌, ◌-◌, ◌≤◌, min, Bool, true, false, cond, ◌&&◌, eqb, List, [], ◌∷◌, map, refl, ap, ◌∙◌, arith}
+use Rattle.std.proofs.lemmas.List.{length-map}
 use Rattle.policy.specs.Fair.{Rule, Fairly}
 use Rattle.rules.specs.declared.order.Side.{Side}
 use Rattle.rules.specs.declared.order.Side.TheVariants.{Bid, Offer}
@@ -172,9 +173,5 @@ turned_sound : (p : ℕ) → lowest_price ≤ p → p ≤ highest_price → (os 
 turned_sound p l h [] a = tt
 turned_sound p l h (o ∷ os) a = ((a.0.0, a.0.1, turned_range o.kind p l h a.0.2), turned_sound p l h os a.1)
 
-turned_length : (p : ℕ) (os : List Order) → length (map (turn p) os) ≡ length os
-turned_length p [] = refl
-turned_length p (o ∷ os) = ap suc (turned_length p os)
-
 pub turned_book : (p : ℕ) → lowest_price ≤ p → p ≤ highest_price → (os : List Order) → Book os → Book (map (turn p) os)
-turned_book p l h os b = record { sound = turned_sound p l h os b.sound; few = omega (arith, turned_length p os, b.few) }
+turned_book p l h os b = record { sound = turned_sound p l h os b.sound; few = omega (arith, length-map os (turn p), b.few) }

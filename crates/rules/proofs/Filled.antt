@@ -1,7 +1,8 @@
 -- What a level's fill leaves, and that it loses no lot.
 use Rattle.std.proofs.Common.{◌≡◌, ℕ, suc, ◌+◌, ◌-◌, ◌≤◌, min, Bool, true, false, cond, ◌&&◌, ltb, List, [], ◌∷◌, ◌++◌, map, length, filter, sym, refl, ap, ◌∙◌, arith}
 use Rattle.std.specs.List.{AllByRecursion}
-use Rattle.std.proofs.lemmas.List.{append-nil}
+use Rattle.std.proofs.lemmas.List.{append-nil, length-map}
+use Rattle.std.proofs.lemmas.List.Sums.{length-filter, count_by-le-length}
 use Rattle.std.proofs.lemmas.Bool.{cond_both, cond-true, cond-false, ltb-true, ltb-false, eqb-true, lt-ltb, le-ltb, eq-eqb}
 use Rattle.std.proofs.ByRecursion.{kept_by_passes, All-weaker, all_kept_by, All-append}
 use Rattle.policy.specs.Queue.{Queue}
@@ -187,18 +188,13 @@ taken_length s k (g ∷ gs) (o ∷ os) = cond_both (at s k o) (less o g ∷ take
     (λ _. ap suc (taken_length s k (g ∷ gs) os))
 
 kept_length : (t : Order → Bool) (os : List Order) → length (filter t os) ≤ length os
-kept_length t [] = omega arith
-kept_length t (o ∷ os) = cond_both (t o) (o ∷ filter t os) (filter t os) (λ z. length z ≤ suc (length os)) (λ _. omega (arith, kept_length t os)) (λ _. omega (arith, kept_length t os))
+kept_length t os = omega (arith, length-filter t os, count_by-le-length t os)
 
 pub kept_sound : (t : Order → Bool) (os : List Order) → Sound os → Sound (filter t os)
 kept_sound t os a = all_kept_by t (λ o. (1 ≤ o.lots) × (o.lots ≤ most_lots) × InRange o.kind) os a
 
 pub kept_book : (t : Order → Bool) (os : List Order) → Book os → Book (filter t os)
 kept_book t os b = record { sound = kept_sound t os b.sound; few = omega (arith, kept_length t os, b.few) }
-
-queue_length : (os : List Order) → length (map (λ (o : Order). o.lots) os) ≡ length os
-queue_length [] = refl
-queue_length (o ∷ os) = ap suc (queue_length os)
 
 queue_small : (os : List Order) → Sound os → AllByRecursion (λ place. place ≤ most_lots) (map (λ (o : Order). o.lots) os)
 queue_small [] a = tt
@@ -221,7 +217,7 @@ of_kind T os = held (λ o. T o.side o.kind) os
 module _ (rule : Rule) (fair : Fairly rule) (s : Side) (v : ℕ) (k : Kind) (os : List Order) (b : Book os) where
   level_queue : Queue (queue s k os)
   level_queue = record {
-    few = omega (arith, queue_length (level s k os), kept_length (at s k) os, b.few);
+    few = omega (arith, length-map (level s k os) (λ (o : Order). o.lots), kept_length (at s k) os, b.few);
     small = queue_small (level s k os) (kept_sound (at s k) os b.sound);
   }
 

@@ -1,7 +1,8 @@
 -- What becomes of the numbers of open orders: no operation changes one, and most leave some out.
 use Rattle.std.proofs.Common.{◌≡◌, ℕ, zero, suc, ◌+◌, ◌-◌, ◌<◌, ◌≤◌, min, Bool, true, cond, not, ◌&&◌, eqb, ltb, List, [], ◌∷◌, ◌++◌, map, take, Some, None, filter, Option, sym, refl, ap, ◌∙◌, subst, arith}
-use Rattle.std.specs.List.{remove}
+use Rattle.std.specs.List.{remove, list_all}
 use Rattle.std.proofs.lemmas.List.{append-nil, map-append}
+use Rattle.std.proofs.lemmas.List.Folds.{list_all-append}
 use Rattle.std.proofs.lemmas.Bool.{and_parts, and_from, lt-ltb, ltb-true, cond_both}
 use Rattle.policy.specs.Fair.{Rule}
 use Rattle.rules.specs.declared.order.Side.{Side}
@@ -32,26 +33,20 @@ Thins P = (a b : List ℕ) (x : ℕ) → P (a ++ x ∷ b) → P (a ++ b)
 behind : (P : List ℕ → Type 0) → Thins P → (y : ℕ) → Thins (λ xs. P (y ∷ xs))
 behind P thins y a b x h = thins (y ∷ a) b x h
 
-below_thins : (n : ℕ) (a b : List ℕ) (x : ℕ) → below n (a ++ x ∷ b) ≡ true → below n (a ++ b) ≡ true
-below_thins n [] b x h = (and_parts (ltb x n) (below n b) h).1
-below_thins n (y ∷ a) b x h =
-    let p = and_parts (ltb y n) (below n (a ++ x ∷ b)) h in
-    and_from (ltb y n) (below n (a ++ b)) p.0 (below_thins n a b x p.1)
-
-above_thins : (n : ℕ) (a b : List ℕ) (x : ℕ) → above n (a ++ x ∷ b) ≡ true → above n (a ++ b) ≡ true
-above_thins n [] b x h = (and_parts (ltb n x) (above n b) h).1
-above_thins n (y ∷ a) b x h =
-    let p = and_parts (ltb n y) (above n (a ++ x ∷ b)) h in
-    and_from (ltb n y) (above n (a ++ b)) p.0 (above_thins n a b x p.1)
+-- So it is of numbers that all pass a test.
+all_thins : (p : ℕ → Bool) → Thins (λ xs. list_all p xs ≡ true)
+all_thins p a b x h =
+    let parts = and_parts (list_all p a) (p x && list_all p b) (sym (list_all-append p a (x ∷ b)) ∙ h) in
+    list_all-append p a b ∙ and_from (list_all p a) (list_all p b) parts.0 (and_parts (p x) (list_all p b) parts.1).1
 
 rising_thins : (a b : List ℕ) (x : ℕ) → rising (a ++ x ∷ b) ≡ true → rising (a ++ b) ≡ true
 rising_thins [] b x h = (and_parts (above x b) (rising b) h).1
 rising_thins (y ∷ a) b x h =
     let p = and_parts (above y (a ++ x ∷ b)) (rising (a ++ x ∷ b)) h in
-    and_from (above y (a ++ b)) (rising (a ++ b)) (above_thins y a b x p.0) (rising_thins a b x p.1)
+    and_from (above y (a ++ b)) (rising (a ++ b)) (all_thins (ltb y) a b x p.0) (rising_thins a b x p.1)
 
 pub thin_below : (n : ℕ) → Thins (λ xs. below n xs ≡ true)
-thin_below n = below_thins n
+thin_below n = all_thins (λ x. ltb x n)
 
 pub thin_rising : Thins (λ xs. rising xs ≡ true)
 thin_rising = rising_thins
@@ -114,31 +109,22 @@ thin_removed P thins (suc i) (o ∷ os) h = thin_removed (λ xs. P (o.number ∷
 
 -- ---- one order more
 
-below_push : (n x : ℕ) (xs : List ℕ) → x < n → below n xs ≡ true → below n (xs ++ x ∷ []) ≡ true
-below_push n x [] lt h = and_from (ltb x n) true (lt-ltb x n lt) refl
-below_push n x (y ∷ xs) lt h =
-    let p = and_parts (ltb y n) (below n xs) h in
-    and_from (ltb y n) (below n (xs ++ x ∷ [])) p.0 (below_push n x xs lt p.1)
-
-above_push : (n x : ℕ) (xs : List ℕ) → n < x → above n xs ≡ true → above n (xs ++ x ∷ []) ≡ true
-above_push n x [] lt h = and_from (ltb n x) true (lt-ltb n x lt) refl
-above_push n x (y ∷ xs) lt h =
-    let p = and_parts (ltb n y) (above n xs) h in
-    and_from (ltb n y) (above n (xs ++ x ∷ [])) p.0 (above_push n x xs lt p.1)
+all_push : (p : ℕ → Bool) (x : ℕ) (xs : List ℕ) → p x ≡ true → list_all p xs ≡ true → list_all p (xs ++ x ∷ []) ≡ true
+all_push p x xs here h = list_all-append p xs (x ∷ []) ∙ and_from (list_all p xs) (p x && true) h (and_from (p x) true here refl)
 
 rising_push : (x : ℕ) (xs : List ℕ) → below x xs ≡ true → rising xs ≡ true → rising (xs ++ x ∷ []) ≡ true
 rising_push x [] b h = refl
 rising_push x (y ∷ xs) b h =
     let q = and_parts (ltb y x) (below x xs) b in
     let p = and_parts (above y xs) (rising xs) h in
-    and_from (above y (xs ++ x ∷ [])) (rising (xs ++ x ∷ [])) (above_push y x xs (ltb-true y x q.0) p.0) (rising_push x xs q.1 p.1)
+    and_from (above y (xs ++ x ∷ [])) (rising (xs ++ x ∷ [])) (all_push (ltb y) x xs q.0 p.0) (rising_push x xs q.1 p.1)
 
 -- An order of a number above all others keeps them rising.
 pub rising_more : (os : List Order) (o : Order) → below o.number (numbers os) ≡ true → rising (numbers os) ≡ true → rising (numbers (os ++ o ∷ [])) ≡ true
 rising_more os o b h = ap rising (map-append (λ (p : Order). p.number) os (o ∷ [])) ∙ rising_push o.number (numbers os) b h
 
 pub below_more : (n : ℕ) (os : List Order) (o : Order) → o.number < n → below n (numbers os) ≡ true → below n (numbers (os ++ o ∷ [])) ≡ true
-below_more n os o lt h = ap (below n) (map-append (λ (p : Order). p.number) os (o ∷ [])) ∙ below_push n o.number (numbers os) lt h
+below_more n os o lt h = ap (below n) (map-append (λ (p : Order). p.number) os (o ∷ [])) ∙ all_push (λ x. ltb x n) o.number (numbers os) (lt-ltb o.number n lt) h
 
 pub below_weaker : (n m : ℕ) (xs : List ℕ) → n ≤ m → below n xs ≡ true → below m xs ≡ true
 below_weaker n m [] le h = refl

@@ -224,10 +224,10 @@ other_other Bid = refl
 other_other Offer = refl
 
 both_sides : (P : Side → Type 0) (s : Side) → P (other s) → P s → (s' : Side) → P s'
-both_sides P Bid far near Bid = near
-both_sides P Bid far near Offer = far
-both_sides P Offer far near Bid = far
-both_sides P Offer far near Offer = near
+both_sides P Bid across near Bid = near
+both_sides P Bid across near Offer = across
+both_sides P Offer across near Bid = across
+both_sides P Offer across near Offer = near
 
 module _ (rule : Rule) (fair : Fairly rule) (e : Incoming) (os : List Order) (b : Book os) where
   rest_account : (t : ℕ → Side → Bool) → held (λ o. t o.number o.side) os + cond (t e.number e.side) e.lots 0 ≡ held (λ o. t o.number o.side) ((met rule e os).orders ++ resting e e.limit (e.lots - min e.lots (reach e os))) + lined t (met rule e os).tape + cond (t e.number e.side) (cond (rests e.limit e.condition) 0 (e.lots - min e.lots (reach e os))) 0

@@ -13,6 +13,7 @@ pub fn fill_keeps_lots()
 {}
 
 // A level trades what is left after all better levels, and no more.
+#[tactic(auto, using(crate::proofs::Kept::better_levels_first))]
 pub fn better_levels_first()
     ensures { BetterLevelsFirst }
 {}
@@ -24,11 +25,13 @@ pub fn price_lies_between()
 {}
 
 // The table of rungs gives the step of each ladder at every price.
+#[tactic(auto, using(crate::proofs::Kept::steps_as_listed))]
 pub fn ladder_steps_are_as_listed()
     ensures { StepsAsListed }
 {}
 
 // Nine small books open as listed, and three small queues are shared as listed.
+#[tactic(auto, using(crate::proofs::Sampled::twelve_samples))]
 pub fn samples_hold()
     ensures { TwelveSamples }
 {}

@@ -1,23 +1,32 @@
-use Rattle.std.proofs.Common.{◌≡◌, ◌-◌, ◌≤◌, true, length, get_or, ap, arith, rules}
+-- What the policy below gives the first place leaves room for the favour: the law of the bound.
+use Rattle.std.proofs.Common.{◌≡◌, ℕ, ◌+◌, ◌-◌, ◌≤◌, true, List, [], ◌∷◌, length, get_or, ap, arith, rules}
+use Rattle.policy.specs.Queue.{most_lots, Queue}
+use Rattle.policy.specs.Fair.{Fair}
 use Rattle.policy.specs.Asked.{answered}
 use Rattle.policy.specs.Favour.{less}
 use Rattle.policy.proofs.Queues.{answered_queue}
-use Rattle.policy.specs.Favours.{favoured_le_first, less_queue, first_fits}
+use Rattle.policy.specs.Favours.{favoured_le_first, less_queue}
 use Rattle.policy.proofs.Asking.{taken_shares}
 use Rattle.policy.proofs.favour.FavourPolicy.share.Goals as goal
 
+-- the first share and the favour are no more than the place
+first_fits : (q s : List ℕ) (v g : ℕ) → Queue q → g ≤ get_or q 0 0 → Fair (less q g) v s → get_or s 0 0 + g ≤ most_lots
+first_fits [] [] v g h le f = omega arith
+first_fits [] (y ∷ ys) v g h le f = absurd f.within
+first_fits (x ∷ xs) [] v g h le f = absurd f.within
+first_fits (x ∷ xs) (y ∷ ys) v g h le f = omega (arith, f.within.0, h.small.0)
+
 pub add_first-requires : goal.add_first-requires
 add_first-requires g c =
+    let favour = c.args.self.now in
     let q = c.args.queue.now in
-    let below = g.P.Policy.rule c.args.self.now.below in
     let given = c.first_gets-given.result in
     let v = c.args.lots - given in
     let yes : answered q (length c.args.shares.now) ≡ true = search rules in
-    let h = answered_queue q (length c.args.shares.now) yes in
-    let le : given ≤ get_or q 0 0 = omega (arith, favoured_le_first c.args.self.now.«cap» c.args.self.now.minimum q c.args.lots) in
-    let fair = g.met.P.Policy.fair c.args.self.now.below (less q given) v (less_queue q given h) in
-    let fits = first_fits q (below (less q given) v) v given h le fair in
-    let held : c.take_first.new.held ≡ less q given = c.take_first.ensures in
-    let is = taken_shares below c.take_first.new.held v c.args.shares.now c.share.new.shares c.in_ok-share.field-0 c.in_ok-share.ensures in
-    let same : c.share.new.shares ≡ below (less q given) v = cc in
+    let queue = answered_queue q (length c.args.shares.now) yes in
+    let le : given ≤ get_or q 0 0 = omega (arith, favoured_le_first favour.«cap» favour.minimum q c.args.lots) in
+    let fits = first_fits q _ v given queue le (g.met.P.Policy.fair favour.below (less q given) v (less_queue q given queue)) in
+    let held : c.take_first.new.places ≡ less q given = search rules in
+    let is = taken_shares (g.P.Policy.rule favour.below) c.take_first.new.places v c.args.shares.now c.share.new.shares c.in_ok-share.field-0 c.in_ok-share.ensures in
+    let same : c.share.new.shares ≡ g.P.Policy.rule favour.below (less q given) v = cc in
     omega (arith, ap (λ s. get_or s 0 0) same)

@@ -1,7 +1,0 @@
-use Rattle.std.proofs.Common.{◌≡◌, ◌++◌, take, drop}
-use Rattle.policy.specs.ProRatas.{dealing}
-use Rattle.policy.proofs.pro_rata.deal.Given as goal
-
--- What is written, and what the rule gives the rest.
-abbrev pub invariant-loop-i : goal.invariant-loop-i
-invariant-loop-i l = take l.i l.shares ++ dealing l.held l.lots l.left (drop l.i l.queue) ≡ dealing l.held l.lots l.initial.left l.queue

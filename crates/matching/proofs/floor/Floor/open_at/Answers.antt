@@ -10,11 +10,11 @@ use Rattle.table.specs.Tables.{open_orders}
 use Rattle.table.proofs.Fit.{table_book}
 use Rattle.matching.specs.Answers.{answer_of}
 use Rattle.matching.proofs.Stages.{price_is, price_within, bought_few, withdrawn_both}
-use Rattle.matching.proofs.opening.open_at.Goals as goal
+use Rattle.matching.proofs.floor.Floor.open_at.Goals as goal
 
 pub trade_opening-requires : goal.trade_opening-requires
 trade_opening-requires g c =
-    let t = c.args.table.now in
+    let t = c.args.self.now.table in
     let found = sym c.requires.price ∙ c.in-Some.is in
     record {
       empty = c.requires.empty;
@@ -23,14 +23,14 @@ trade_opening-requires g c =
 
 pub bought-requires : goal.bought-requires
 bought-requires g c =
-    let t = c.args.table.now in
+    let t = c.args.self.now.table in
     let found = sym c.requires.price ∙ c.in-Some.is in
     let few = bought_few (g.P.Policy.rule c.args.policy.now) (g.met.P.Policy.fair c.args.policy.now) (open_orders t) (table_book t) c.args.lots c.in-Some.p c.requires.volume found in
     omega (arith, few, ap (λ (m : Step). lined (λ n s. is Bid s) m.tape) c.trade_opening.ensures)
 
 pub returns-in-Some : goal.returns-in-Some
 returns-in-Some g c =
-    let os = open_orders c.args.table.now in
+    let os = open_orders c.args.self.now.table in
     let v = c.args.lots in
     let p = c.in-Some.p in
     let rule = g.P.Policy.rule c.args.policy.now in
@@ -45,7 +45,7 @@ returns-in-Some g c =
 -- The lots withdrawn are those of On-Open bids and of On-Open offers.
 pub overflow_add-result : goal.overflow_add-result
 overflow_add-result g c =
-    let t = c.args.table.now in
+    let t = c.args.self.now.table in
     let os = open_orders t in
     omega (
       arith,
@@ -57,7 +57,7 @@ overflow_add-result g c =
 
 pub returns-in-None : goal.returns-in-None
 returns-in-None g c =
-    let os = open_orders c.args.table.now in
+    let os = open_orders c.args.self.now.table in
     let v = c.args.lots in
     let rule = g.P.Policy.rule c.args.policy.now in
     let found = ap (λ (o : Option ℕ). opened_at rule os v o) c.in-None.is in

@@ -11,16 +11,16 @@ use Rattle.table.proofs.Fit.{table_book}
 use Rattle.matching.specs.Steps.{step_of}
 use Rattle.matching.proofs.Counts.{fill_lines}
 use Rattle.matching.proofs.Stages.{both_levels, level_after, cross_lines}
-use Rattle.matching.proofs.opening.cross.Goals as goal
+use Rattle.matching.proofs.floor.Floor.cross.Goals as goal
 
 pub trade_level-requires : goal.trade_level-requires
 trade_level-requires g c =
-    let t = c.args.table.now in
+    let t = c.args.self.now.table in
     omega (arith, c.requires, both_levels c.args.kind (open_orders t), (table_book t).few)
 
 pub trade_level-requires-2 : goal.trade_level-requires-2
 trade_level-requires-2 g c =
-    let m = step_of c.args.table.now c.args.tape.now in
+    let m = step_of c.args.self.now in
     let rule = g.P.Policy.rule c.args.policy.now in
     let fair = g.met.P.Policy.fair c.args.policy.now in
     let v = c.lesser-lots.result in
@@ -30,10 +30,10 @@ trade_level-requires-2 g c =
       arith,
       c.requires,
       both_levels k m.orders,
-      (table_book c.args.table.now).few,
+      (table_book c.args.self.now.table).few,
       ap (λ (z : Step). length z.tape) e,
       ap (λ (z : Step). length (level Offer k z.orders)) e,
-      fill_lines rule fair Bid v m (table_book c.args.table.now) c.args.price k,
+      fill_lines rule fair Bid v m (table_book c.args.self.now.table) c.args.price k,
       level_after rule (Opening c.args.price) Bid Offer v k m,
     )
 
@@ -43,12 +43,12 @@ both rule p v k m n z is e f = f ∙ (ap (fill rule (Opening p) Offer v k) e ∙
 
 pub returns : goal.returns
 returns g c =
-    let m = step_of c.args.table.now c.args.tape.now in
+    let m = step_of c.args.self.now in
     let rule = g.P.Policy.rule c.args.policy.now in
     let fair = g.met.P.Policy.fair c.args.policy.now in
     let k = c.args.kind in
-    let exact = both rule c.args.price c.lesser-lots.result k m (step_of c.trade_level.new.table c.trade_level.new.tape) (step_of c.trade_level-2.new.table c.trade_level-2.new.tape) c.lesser-lots.ensures c.trade_level.ensures.exact c.trade_level-2.ensures.exact in
+    let exact = both rule c.args.price c.lesser-lots.result k m (step_of c.trade_level.new.self) (step_of c.trade_level-2.new.self) c.lesser-lots.ensures c.trade_level.ensures.exact c.trade_level-2.ensures.exact in
     record {
       exact = exact;
-      lines = omega (arith, ap (λ (z : Step). length z.tape) exact, cross_lines rule fair c.args.price k m (table_book c.args.table.now));
+      lines = omega (arith, ap (λ (z : Step). length z.tape) exact, cross_lines rule fair c.args.price k m (table_book c.args.self.now.table));
     }

@@ -1,5 +1,5 @@
 // Trading with one level.
-ghost use Rattle.std.specs.Prelude.{◌≡◌, ◌+◌, ◌≤◌, min, true, length, if◌then◌else◌};
+ghost use Rattle.std.specs.Prelude.{◌≡◌, ◌+◌, ◌≤◌, min, true, length};
 ghost use Rattle.policy.specs.Asked.{answered};
 ghost use Rattle.policy.specs.Fair.{total};
 ghost use Rattle.rules.specs.Orders.{at, level, held as held_by};
@@ -10,25 +10,19 @@ ghost use Rattle.matching.specs.Steps.{step_of};
 
 use crate::floor::Floor;
 use policy::Policy;
-use rules::order::{Kind, Order, Side};
+use rules::order::{Kind, Side};
 use table::table::Table;
-
-// The lots of an order of the level, else none.
-fn counted(o: Order, side: Side, kind: Kind) -> u32
-    ensures { result ≡ (if at side kind o then o.lots else 0) }
-{
-    if o.at(side, kind) { o.lots } else { 0 }
-}
 
 // The lots of a level.
 pub(crate) fn lots_at(table: &Table, side: Side, kind: Kind) -> u32
     ensures { result ≡ held_by (at side kind) (open_orders table.now) }
 {
-    let mut sum = 0;
-    for o in table.orders() {
-        sum += counted(*o, side, kind);
-    }
-    sum
+    table
+        .orders()
+        .iter()
+        .filter(|o| o.at(side, kind))
+        .map(|o| o.lots)
+        .sum()
 }
 
 // Where a queue holds more than the lots that trade with it, each place gives what the policy shares; else all it holds.

@@ -1,5 +1,5 @@
 // The opening of a book: its three stages, or the withdrawal of its On-Open orders.
-ghost use Rattle.std.specs.Prelude.{◌≡◌, ◌+◌, ◌^◌, ◌<◌, ◌≤◌, true, not, [], length, if◌then◌else◌, filter};
+ghost use Rattle.std.specs.Prelude.{◌≡◌, ◌+◌, ◌^◌, ◌<◌, ◌≤◌, true, not, [], length, filter};
 ghost use Rattle.rules.specs.Sides.{is};
 ghost use Rattle.rules.specs.Orders.{level, on_open};
 ghost use Rattle.rules.specs.Price.{volume as volume_of, price_at};
@@ -20,7 +20,7 @@ use crate::span::Span;
 use policy::Policy;
 use rules::calls::OpeningAnswer;
 use rules::order::{Kind, Side};
-use rules::tape::{TapeLine, Terms};
+use rules::tape::Terms;
 use table::table::{Change, Leaving, Prices, Table};
 use table::tape::Tape;
 
@@ -32,27 +32,16 @@ fn lesser(table: &Table, kind: Kind) -> u32
     bids.min(lots_at(table, Side::Offer, kind))
 }
 
-// The lots of a bid's line, else none.
-fn bought_by(line: TapeLine) -> u32
-    ensures { result ≡ (if is Bid line.side then line.lots else 0) }
-{
-    if Side::Bid.is(line.side) {
-        line.lots
-    } else {
-        0
-    }
-}
-
 // The lots bought by the lines of a tape.
 fn bought(tape: &Tape) -> u32
     requires { lined (λ n s. is Bid s) (tape_lines tape.now) < 2 ^ 32 }
     ensures { result ≡ lined (λ n s. is Bid s) (tape_lines tape.now) }
 {
-    let mut sum = 0;
-    for line in tape.lines() {
-        sum += bought_by(*line);
-    }
-    sum
+    tape.lines()
+        .iter()
+        .filter(|line| line.side == Side::Bid)
+        .map(|line| line.lots)
+        .sum()
 }
 
 // Withdraws the On-Open orders, and answers their lots, of bids and of offers.

@@ -1,24 +1,13 @@
 // What is asked of some prices of one side.
-ghost use Rattle.std.specs.Prelude.{◌≡◌, [], ◌∷◌, filter};
-ghost use Rattle.rules.specs.Orders.{prices as prices_of};
+ghost use Rattle.std.specs.Prelude.{◌≡◌};
 ghost use Rattle.table.specs.Tables.{open_orders};
-ghost use Rattle.matching.specs.Best.{first_of, next_of, best_with, best_from};
+ghost use Rattle.matching.specs.Best.{first_of, next_of};
 ghost use Rattle.matching.specs.Spans.{spans, ranked_in, facing};
 
 use super::Span;
 use rules::incoming::Incoming;
-use rules::order::{Order, Side};
+use rules::order::Side;
 use table::table::{Prices, Table};
-
-// The better of a price, if one is found, and another.
-fn better(side: Side, found: Option<u32>, x: u32) -> Option<u32>
-    ensures { result ≡ best_with side found x }
-{
-    match found {
-        Some(y) if !side.better_than(y, x) => found,
-        _ => Some(x),
-    }
-}
 
 impl Span {
     // The prices of the other side that an entry accepts.
@@ -34,25 +23,26 @@ impl Span {
         }
     }
 
-    // The price found so far, and that of one order more if it is one of the span's.
-    fn with_order(self, found: Option<u32>, o: Order) -> Option<u32>
-        ensures { result ≡ best_from self.side found (filter (spans self) (prices_of self.side (o ∷ []))) }
+    // Whether a price is one of the span's.
+    fn has(self, x: u32) -> bool
+        ensures { result ≡ spans self x }
     {
-        match o.limit(self.side) {
-            Some(x) if self.prices.among(self.side, x) => better(self.side, found, x),
-            _ => found,
-        }
+        self.prices.among(self.side, x)
     }
 
     // The best of its prices at which limit orders are open.
     fn best(self, table: &Table) -> Option<u32>
         ensures { result ≡ first_of (ranked_in self (open_orders table.now)) }
     {
-        let mut found = None;
-        for o in table.orders() {
-            found = self.with_order(found, *o);
+        let prices = table
+            .orders()
+            .iter()
+            .filter_map(|o| o.limit(self.side))
+            .filter(|x| self.has(*x));
+        match self.side {
+            Side::Bid => prices.max(),
+            Side::Offer => prices.min(),
         }
-        found
     }
 
     // The price of the next level that the lots left trade with.

@@ -1,35 +1,38 @@
-use Rattle.std.proofs.Common.{◌≡◌, ℕ, ◌+◌, ◌<◌, ◌≤◌, Bool, List, [], ◌∷◌, length, get_or, drop, filter, Option, sym, refl, ap, ◌∙◌, subst, arith}
-use Rattle.std.proofs.lemmas.List.{at_drop_all}
+use Rattle.std.proofs.Common.{◌≡◌, ℕ, Bool, List, filter, sym, ap, ◌∙◌, rules, tests}
+use Rattle.std.specs.List.{filter_map, reduce}
+use Rattle.std.proofs.lemmas.Iterator.{YieldsList-from_slice}
+use Rattle.std.proofs.lemmas.Iterator.Consumers.{YieldsList-at, YieldsList-from_filter, YieldsList-from_filter_map, max_from_yields_List, min_from_yields_List}
+use Rattle.std.proofs.lemmas.Iterator.Adapters.{option_map_id}
+use Rattle.rules.specs.declared.order.Side.{Side}
+use Rattle.rules.specs.declared.order.Side.TheVariants.{Bid, Offer}
 use Rattle.rules.specs.declared.order.Order.{Order}
-use Rattle.rules.specs.Orders.{prices}
+use Rattle.rules.specs.Orders.{prices, limit_of}
+use Rattle.rules.specs.Trades.{ranked}
 use Rattle.table.specs.Tables.{open_orders}
-use Rattle.matching.specs.Best.{best_from}
+use Rattle.matching.specs.Best.{first_of}
 use Rattle.matching.specs.Spans.{spans}
-use Rattle.matching.proofs.Loops.{blank, price_next}
-use Rattle.matching.proofs.Ranks.{best_price}
+use Rattle.matching.proofs.Chains.{prices_are}
+use Rattle.matching.proofs.Ranks.{better_of, best_price}
 use Rattle.matching.proofs.span.Span.best.Goals as goal
 
-pub loop-o-preserved : goal.loop-o-preserved
-loop-o-preserved c =
-    let os = open_orders c.args.table.now in
-    let i = c.loop-o.o-index in
-    let s = c.args.self.side in
-    let t : ℕ → Bool = spans c.args.self in
-    let e : c.orders-o-items.result.now ≡ os = c.orders-o-items.ensures in
-    let h : i < length os = subst (λ (l : List Order). i < length l) e c.loop-o-test.true in
-    let next = price_next (best_from s) (λ _. refl) (λ _ _ _. refl) t c.loop-o.found s os i h in
-    let same = ap (λ (l : List Order). best_from s c.loop-o.found (filter t (prices s (get_or l i blank ∷ [])))) e in
-    let found : c.with_order-found.result ≡ best_from s c.loop-o.found (filter t (prices s (get_or os i blank ∷ []))) = c.with_order-found.ensures ∙ same in
-    ap (λ (n : Option ℕ). best_from s n (filter t (prices s (drop (i + 1) os)))) found ∙ (sym next ∙ c.loop-o.invariant)
+-- The best of the chain's prices, for a side that is known.
+best_of : (s side : Side) (t : ℕ → Bool) (os : List Order) → s ≡ side → reduce (better_of side) (filter t (filter_map (limit_of s) os)) ≡ first_of (filter t (ranked s os))
+best_of s side t os is = ap (λ (z : Side). reduce (better_of z) (filter t (filter_map (limit_of s) os))) (sym is) ∙ ap (λ (xs : List ℕ). reduce (better_of s) (filter t xs)) (prices_are s os) ∙ best_price s t os
 
-pub returns : goal.returns
-returns c =
+pub returns-in-Bid : goal.returns-in-Bid
+returns-in-Bid c =
     let os = open_orders c.args.table.now in
-    let i = c.loop-o.o-index in
     let s = c.args.self.side in
     let t : ℕ → Bool = spans c.args.self in
-    let e : c.orders-o-items.result.now ≡ os = c.orders-o-items.ensures in
-    let h = ap length e in
-    let le : length os ≤ i = omega arith in
-    let end : best_from s c.loop-o.found (filter t (prices s (drop i os))) ≡ c.loop-o.found = at_drop_all (λ l. best_from s c.loop-o.found (filter t (prices s l))) os i le in
-    sym end ∙ (c.loop-o.invariant ∙ best_price s t os)
+    sym (option_map_id c.max.result)
+    ∙ max_from_yields_List c.filter-prices.result c.max.result c.max.ensures.ran (YieldsList-from_filter _ t (YieldsList-at c.filter-prices.ensures.source (YieldsList-from_filter_map _ (limit_of s) (YieldsList-from_slice os cc) c.filter_map.ensures.closure (λ x r q k. search (rules, tests)))) c.filter-prices.ensures.closure (λ x r q k. search (rules, tests)))
+    ∙ best_of s Bid t os c.in-Bid.is
+
+pub returns-in-Offer : goal.returns-in-Offer
+returns-in-Offer c =
+    let os = open_orders c.args.table.now in
+    let s = c.args.self.side in
+    let t : ℕ → Bool = spans c.args.self in
+    sym (option_map_id c.min.result)
+    ∙ min_from_yields_List c.filter-prices.result c.min.result c.min.ensures.ran (YieldsList-from_filter _ t (YieldsList-at c.filter-prices.ensures.source (YieldsList-from_filter_map _ (limit_of s) (YieldsList-from_slice os cc) c.filter_map.ensures.closure (λ x r q k. search (rules, tests)))) c.filter-prices.ensures.closure (λ x r q k. search (rules, tests)))
+    ∙ best_of s Offer t os c.in-Offer.is

@@ -23,11 +23,11 @@ module _ {O S : Type 0} where
     today = h.today;
     last_trading_day = h.last;
     next = h.next;
-    tape = tape_lines h.tape;
+    tape = tape_lines h.floor.tape;
     phase = phase;
     hours = h.hours;
     lines = line_list h.lines;
-    orders = open_orders h.table;
+    orders = open_orders h.floor.table;
   }
 
   -- The rules of the two policies that a book was made of.

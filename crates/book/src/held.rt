@@ -1,9 +1,8 @@
 // What a book holds in either phase, apart from its methods: a file of specs/ names it.
+use matching::Floor;
 use rules::calls::Hours;
 use rules::ladder::Ladder;
 use table::lines::Lines;
-use table::table::Table;
-use table::tape::Tape;
 
 mod calls;
 mod checks;
@@ -17,8 +16,7 @@ pub struct Held<O, S> {
     pub(crate) last: u16,
     pub(crate) next: u32,
     pub(crate) hours: Hours,
-    pub(crate) table: Table,
-    pub(crate) tape: Tape,
+    pub(crate) floor: Floor,
     pub(crate) lines: Lines,
     pub(crate) opening: O,
     pub(crate) session: S,

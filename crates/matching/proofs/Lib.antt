@@ -1,5 +1,5 @@
 mod Counts
-mod Loops
+mod Chains
 mod Ranks
 mod Stages
 mod Walks

@@ -1,6 +1,6 @@
 -- Prices in order: the first is the best, and a list in order is known by its members.
-use Rattle.std.proofs.Common.{◌≡◌, ℕ, ◌<◌, Bool, true, cond, eqb, ◌⊎◌, List, [], ◌∷◌, Some, None, filter, Option, sym, refl, ap, ◌∙◌, subst, inl, inr, arith}
-use Rattle.std.specs.List.{AllByRecursion}
+use Rattle.std.proofs.Common.{◌≡◌, ℕ, ◌<◌, min, max, Bool, true, cond, eqb, ltb, ◌⊎◌, List, [], ◌∷◌, Some, None, filter, Option, fold, sym, refl, ap, ◌∙◌, subst, inl, inr, arith}
+use Rattle.std.specs.List.{AllByRecursion, reduce}
 use Rattle.std.proofs.lemmas.Bool.{cond_both}
 use Rattle.std.proofs.lemmas.Bool.Decides.{nat_tests}
 use Rattle.rules.specs.declared.order.Side.{Side}
@@ -13,44 +13,41 @@ use Rattle.rules.specs.Laws.{In}
 use Rattle.rules.proofs.Held.{lots_at, level_in, in_level}
 use Rattle.rules.proofs.Prices.{kept_in, in_kept}
 use Rattle.rules.proofs.Served.{Sorted, best_first_sorted, best_first_in, kept_sorted}
-use Rattle.matching.specs.Best.{first_of, better_of, best_with, best_from}
+use Rattle.matching.specs.Best.{first_of}
 
 -- ---- the first
 
-first_into : (s : Side) (x : ℕ) (ys : List ℕ) → first_of (into s x ys) ≡ best_with s (first_of ys) x
-first_into s x [] = refl
-first_into s x (y ∷ ys) = cond_both (better_than s y x) (x ∷ y ∷ ys) (cond (eqb x y) (y ∷ ys) (y ∷ into s x ys)) (λ z. first_of z ≡ Some (better_of s y x))
-    (λ e. rw e)
-    (λ e. rw e (cond_both (eqb x y) (y ∷ ys) (y ∷ into s x ys) (λ z. first_of z ≡ Some y) (λ _. refl) (λ _. refl)))
+-- the better of two prices
+abbrev pub better_of : Side → ℕ → ℕ → ℕ
+better_of Bid y x = max y x
+better_of Offer y x = min y x
 
-abbrev join : Side → Option ℕ → Option ℕ → Option ℕ
+abbrev join : Side → ℕ → Option ℕ → ℕ
 join s a None = a
-join s a (Some x) = best_with s a x
+join s a (Some x) = better_of s a x
 
-join_none : (s : Side) (a : Option ℕ) → join s None a ≡ a
-join_none s None = refl
-join_none s (Some x) = refl
+first_into : (s : Side) (x : ℕ) (ys : List ℕ) → first_of (into s x ys) ≡ Some (join s x (first_of ys))
+first_into s x [] = refl
+first_into Bid x (y ∷ ys) = cond_both (ltb y x) (x ∷ y ∷ ys) (cond (eqb x y) (y ∷ ys) (y ∷ into Bid x ys)) (λ z. first_of z ≡ Some (max x y))
+    (λ e. ap Some (grind (arith, nat_tests)))
+    (λ e. cond_both (eqb x y) (y ∷ ys) (y ∷ into Bid x ys) (λ z. first_of z ≡ Some (max x y)) (λ _. ap Some (grind (arith, nat_tests))) (λ _. ap Some (grind (arith, nat_tests))))
+first_into Offer x (y ∷ ys) = cond_both (ltb x y) (x ∷ y ∷ ys) (cond (eqb x y) (y ∷ ys) (y ∷ into Offer x ys)) (λ z. first_of z ≡ Some (min x y))
+    (λ e. ap Some (grind (arith, nat_tests)))
+    (λ e. cond_both (eqb x y) (y ∷ ys) (y ∷ into Offer x ys) (λ z. first_of z ≡ Some (min x y)) (λ _. ap Some (grind (arith, nat_tests))) (λ _. ap Some (grind (arith, nat_tests))))
 
-either_way : (s : Side) (x y : ℕ) → better_of s x y ≡ better_of s y x
-either_way Bid x y = grind (arith, nat_tests)
-either_way Offer x y = grind (arith, nat_tests)
+of_three : (s : Side) (z x : ℕ) (y : Option ℕ) → join s (better_of s z x) y ≡ better_of s z (join s x y)
+of_three s z x None = refl
+of_three Bid z x (Some y) = omega arith
+of_three Offer z x (Some y) = omega arith
 
-of_three : (s : Side) (z x y : ℕ) → better_of s (better_of s z x) y ≡ better_of s z (better_of s y x)
-of_three Bid z x y = grind (arith, nat_tests)
-of_three Offer z x y = grind (arith, nat_tests)
-
-join_with : (s : Side) (a : Option ℕ) (x : ℕ) (b : Option ℕ) → join s (best_with s a x) b ≡ join s a (best_with s b x)
-join_with s a x None = refl
-join_with s None x (Some y) = ap Some (either_way s x y)
-join_with s (Some z) x (Some y) = ap Some (of_three s z x y)
-
-best_joins : (s : Side) (found : Option ℕ) (xs : List ℕ) → best_from s found xs ≡ join s found (first_of (best_first s xs))
+best_joins : (s : Side) (found : ℕ) (xs : List ℕ) → fold (better_of s) found xs ≡ join s found (first_of (best_first s xs))
 best_joins s found [] = refl
-best_joins s found (x ∷ xs) = best_joins s (best_with s found x) xs ∙ (join_with s found x (first_of (best_first s xs)) ∙ ap (join s found) (sym (first_into s x (best_first s xs))))
+best_joins s found (x ∷ xs) = best_joins s (better_of s found x) xs ∙ of_three s found x (first_of (best_first s xs)) ∙ ap (join s found) (sym (first_into s x (best_first s xs)))
 
--- the best, found one by one, is the first of all in order
-pub best_is_first : (s : Side) (xs : List ℕ) → best_from s None xs ≡ first_of (best_first s xs)
-best_is_first s xs = best_joins s None xs ∙ join_none s (first_of (best_first s xs))
+-- the best of all is the first of all in order
+pub best_is_first : (s : Side) (xs : List ℕ) → reduce (better_of s) xs ≡ first_of (best_first s xs)
+best_is_first s [] = refl
+best_is_first s (x ∷ xs) = ap Some (best_joins s x xs) ∙ sym (first_into s x (best_first s xs))
 
 pub first_some : (xs : List ℕ) (x : ℕ) → first_of xs ≡ Some x → (ys : List ℕ) × (xs ≡ x ∷ ys)
 first_some [] x e = let z : ◌≡◌ {A = ℕ} 0 1 = cc in absurd (omega arith)
@@ -116,7 +113,7 @@ kept_ranked s t xs =
     (λ z i. let k = in_kept t (best_first s xs) z i in best_first_in s (filter t xs) z (kept_in t xs z (in_best_first s xs z k.0) k.1))
 
 -- the best of a side's prices that pass
-pub best_price : (s : Side) (t : ℕ → Bool) (os : List Order) → best_from s None (filter t (prices s os)) ≡ first_of (filter t (ranked s os))
+pub best_price : (s : Side) (t : ℕ → Bool) (os : List Order) → reduce (better_of s) (filter t (prices s os)) ≡ first_of (filter t (ranked s os))
 best_price s t os = best_is_first s (filter t (prices s os)) ∙ ap first_of (kept_ranked s t (prices s os))
 
 -- ---- the prices of a book that pass: those with lots

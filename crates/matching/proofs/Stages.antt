@@ -21,7 +21,7 @@ use Rattle.rules.proofs.Openings.{opening_keeps}
 use Rattle.rules.proofs.Filled.{fill_book}
 use Rattle.rules.proofs.Served.{serve_book, serve_other}
 use Rattle.table.specs.Fits.{price_fits}
-use Rattle.matching.proofs.Loops.{all_kept}
+use Rattle.matching.proofs.Chains.{all_kept}
 use Rattle.matching.proofs.Ranks.{ranked_in, in_ranked, ranked_sorted, ranked_is}
 use Rattle.matching.proofs.Counts.{many, At, Limits, many_level, many_prices, many_fill, fill_lines}
 

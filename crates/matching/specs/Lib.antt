@@ -1,5 +1,6 @@
 pub mod Answers
 pub mod Best
-pub mod Ends
+pub mod Tests
+pub mod Spans
 pub mod Steps
 pub mod Entries

@@ -1,30 +1,18 @@
 // An entry that meets an open book.
-ghost use Rattle.std.specs.Prelude.{◌≡◌, ◌+◌, ◌*◌, ◌≤◌, true, ◌++◌, length};
-ghost use Rattle.rules.specs.Orders.{limits, prices as prices_of};
+ghost use Rattle.std.specs.Prelude.{◌≡◌, ◌≤◌, true, ◌++◌};
 ghost use Rattle.rules.specs.Session.{enough, rests, resting, matched};
 ghost use Rattle.table.specs.Tables.{open_orders, tape_lines};
-ghost use Rattle.table.specs.Choices.{among};
-ghost use Rattle.matching.specs.Entries.{prices_for, allowed, left_of, room_for, entry_answer, settled_answer};
+ghost use Rattle.matching.specs.Entries.{allowed, left_of, room_for, entry_answer, settled_answer};
 ghost use Rattle.matching.specs.Steps.{step_of};
 
-use crate::route::walk;
+use crate::floor::Floor;
+use crate::span::Span;
 use policy::Policy;
 use rules::calls::{Condition, EntryAnswer};
 use rules::incoming::Incoming;
-use rules::order::{Kind, Order, Side};
+use rules::order::{Kind, Order};
 use rules::tape::Terms;
-use table::table::{Prices, Table};
-use table::tape::Tape;
-
-// The prices of the other side that an entry accepts.
-fn accepted(limit: Option<u32>) -> Prices
-    ensures { result ≡ prices_for limit }
-{
-    match limit {
-        None => Prices::Any,
-        Some(q) => Prices::AsGoodAs(q),
-    }
-}
+use table::table::Table;
 
 // Whether the lots within reach meet the condition.
 fn enough(condition: Condition, lots: u32, reach: u32) -> bool
@@ -41,38 +29,7 @@ fn enough(condition: Condition, lots: u32, reach: u32) -> bool
 fn rests(limit: Option<u32>, condition: Condition) -> bool
     ensures { result ≡ rests limit condition }
 {
-    match (limit, condition) {
-        (None, _) | (Some(_), Condition::Ic) => false,
-        _ => true,
-    }
-}
-
-// Counts the lots within reach of an entry; where they meet its condition, trades with them, and answers the lots left.
-fn trade_allowed<P: Policy>(
-    table: &mut Table,
-    tape: &mut Tape,
-    policy: &P,
-    e: Incoming,
-    side: Side,
-    prices: Prices,
-) -> Option<u32>
-    requires { length (tape_lines tape.old) + 2 * length (prices_of side (open_orders table.old)) ≤ 512 }
-    ensures exact { step_of table.new tape.new ≡ allowed (P.Policy.rule policy.now) e side prices (step_of table.old tape.old) }
-    ensures left { result ≡ left_of e (limits side (among prices side) (open_orders table.old)) }
-{
-    let reach = table.lots(side, prices);
-    if !enough(e.condition, e.lots, reach) {
-        return None;
-    }
-    Some(walk(
-        table,
-        tape,
-        policy,
-        Terms::Entry(e.number),
-        side,
-        prices,
-        e.lots,
-    ))
+    limit.is_some() && condition != Condition::Ic
 }
 
 // Sets the rest of an entry behind the other orders, if it stays open.
@@ -95,50 +52,59 @@ fn set_rest(table: &mut Table, e: Incoming, left: u32)
     }
 }
 
-// The entry trades what its condition allows; the rest stays open or is withdrawn.
-pub fn enter<P: Policy>(table: &mut Table, tape: &mut Tape, policy: &P, e: Incoming) -> EntryAnswer
-    requires room { room_for e.limit (open_orders table.old) ≡ true }
-    requires few { e.lots ≤ 9999 }
-    ensures orders { open_orders table.new ≡ (matched (P.Policy.rule policy.now) e (open_orders table.old)).orders }
-    ensures written { tape_lines tape.new ≡ (matched (P.Policy.rule policy.now) e (open_orders table.old)).tape }
-    ensures answer { result ≡ entry_answer e.number (matched (P.Policy.rule policy.now) e (open_orders table.old)) }
-{
-    let side = e.side.other();
-    let prices = accepted(e.limit);
-    tape.clear();
-    match trade_allowed(table, tape, policy, e, side, prices) {
-        None => EntryAnswer {
-            number: e.number,
-            traded: 0,
-            withdrawn: e.lots,
-            open: 0,
-        },
-        Some(left) => {
-            set_rest(table, e, left);
-            settled(e, left)
-        }
-    }
-}
-
 // What became of the lots of an entry that met its condition.
 fn settled(e: Incoming, left: u32) -> EntryAnswer
     requires { left ≤ e.lots }
     ensures { result ≡ settled_answer e left }
 {
-    let traded = e.lots - left;
-    if rests(e.limit, e.condition) {
-        EntryAnswer {
-            number: e.number,
-            traded,
-            withdrawn: 0,
-            open: left,
-        }
+    let (withdrawn, open) = if rests(e.limit, e.condition) {
+        (0, left)
     } else {
-        EntryAnswer {
-            number: e.number,
-            traded,
-            withdrawn: left,
-            open: 0,
+        (left, 0)
+    };
+    EntryAnswer {
+        number: e.number,
+        traded: e.lots - left,
+        withdrawn,
+        open,
+    }
+}
+
+impl Floor {
+    // Counts the lots within reach of an entry; where they meet its condition, trades with them, and answers the lots
+    // left.
+    fn trade_allowed<P: Policy>(&mut self, policy: &P, e: Incoming) -> Option<u32>
+        ensures exact { step_of self.new ≡ allowed (P.Policy.rule policy.now) e (open_orders self.old.table) }
+        ensures left { result ≡ left_of e (open_orders self.old.table) }
+    {
+        self.tape.clear();
+        let span = Span::facing(e);
+        let reach = self.table.lots(span.side, span.prices);
+        if !enough(e.condition, e.lots, reach) {
+            return None;
+        }
+        Some(self.walk(policy, Terms::Entry(e.number), span, e.lots))
+    }
+
+    // The entry trades what its condition allows; the rest stays open or is withdrawn.
+    pub fn enter<P: Policy>(&mut self, policy: &P, e: Incoming) -> EntryAnswer
+        requires room { room_for e.limit (open_orders self.old.table) ≡ true }
+        requires few { e.lots ≤ 9999 }
+        ensures orders { open_orders self.new.table ≡ (matched (P.Policy.rule policy.now) e (open_orders self.old.table)).orders }
+        ensures written { tape_lines self.new.tape ≡ (matched (P.Policy.rule policy.now) e (open_orders self.old.table)).tape }
+        ensures answer { result ≡ entry_answer e.number (matched (P.Policy.rule policy.now) e (open_orders self.old.table)) }
+    {
+        match self.trade_allowed(policy, e) {
+            None => EntryAnswer {
+                number: e.number,
+                traded: 0,
+                withdrawn: e.lots,
+                open: 0,
+            },
+            Some(left) => {
+                set_rest(&mut self.table, e, left);
+                settled(e, left)
+            }
         }
     }
 }

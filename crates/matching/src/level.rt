@@ -1,5 +1,5 @@
 // Trading with one level.
-ghost use Rattle.std.specs.Prelude.{◌≡◌, ◌+◌, ◌≤◌, min, true, length, if◌then◌else◌};
+ghost use Rattle.std.specs.Prelude.{◌≡◌, ◌+◌, ◌≤◌, min, true, length};
 ghost use Rattle.policy.specs.Asked.{answered};
 ghost use Rattle.policy.specs.Fair.{total};
 ghost use Rattle.rules.specs.Orders.{at, level, held as held_by};
@@ -8,27 +8,21 @@ ghost use Rattle.rules.specs.declared.tape.Terms.TheVariants.{Opening};
 ghost use Rattle.table.specs.Tables.{open_orders, tape_lines};
 ghost use Rattle.matching.specs.Steps.{step_of};
 
+use crate::floor::Floor;
 use policy::Policy;
-use rules::order::{Kind, Order, Side};
+use rules::order::{Kind, Side};
 use table::table::Table;
-use table::tape::Tape;
-
-// The lots of an order of the level, else none.
-fn counted(o: Order, side: Side, kind: Kind) -> u32
-    ensures { result ≡ (if at side kind o then o.lots else 0) }
-{
-    if o.at(side, kind) { o.lots } else { 0 }
-}
 
 // The lots of a level.
-pub fn lots_at(table: &Table, side: Side, kind: Kind) -> u32
+pub(crate) fn lots_at(table: &Table, side: Side, kind: Kind) -> u32
     ensures { result ≡ held_by (at side kind) (open_orders table.now) }
 {
-    let mut sum = 0;
-    for o in table.orders() {
-        sum += counted(*o, side, kind);
-    }
-    sum
+    table
+        .orders()
+        .iter()
+        .filter(|o| o.at(side, kind))
+        .map(|o| o.lots)
+        .sum()
 }
 
 // Where a queue holds more than the lots that trade with it, each place gives what the policy shares; else all it holds.
@@ -43,28 +37,29 @@ fn share_out<P: Policy>(policy: &P, queue: &[u32], held: u32, lots: u32, given: 
     }
 }
 
-// Trades up to `lots` with a level, written at the price, and answers the lots traded. The policy is asked only where
-// the level holds more.
-pub fn trade_level<P: Policy>(
-    table: &mut Table,
-    tape: &mut Tape,
-    policy: &P,
-    price: u32,
-    side: Side,
-    kind: Kind,
-    lots: u32,
-) -> u32
-    requires { length (tape_lines tape.old) + length (level side kind (open_orders table.old)) ≤ 512 }
-    ensures exact { step_of table.new tape.new ≡ fill (P.Policy.rule policy.now) (Opening price) side lots kind (step_of table.old tape.old) }
-    ensures traded { result ≡ min lots (held_by (at side kind) (open_orders table.old)) }
-    ensures lines { length (tape_lines tape.new) ≤ length (tape_lines tape.old) + length (level side kind (open_orders table.old)) }
-{
-    let held = lots_at(table, side, kind);
-    let mut queue = [0; 256];
-    let places = table.gather(side, kind, &mut queue);
-    let mut shares = queue;
-    let part = &mut shares[0..places];
-    share_out(policy, &queue[0..places], held, lots, part);
-    table.apply(side, kind, part, price, tape);
-    lots.min(held)
+impl Floor {
+    // Trades up to `lots` with a level, written at the price, and answers the lots traded. The policy is asked only where
+    // the level holds more.
+    pub(crate) fn trade_level<P: Policy>(
+        &mut self,
+        policy: &P,
+        price: u32,
+        side: Side,
+        kind: Kind,
+        lots: u32,
+    ) -> u32
+        requires { length (tape_lines self.old.tape) + length (level side kind (open_orders self.old.table)) ≤ 512 }
+        ensures exact { step_of self.new ≡ fill (P.Policy.rule policy.now) (Opening price) side lots kind (step_of self.old) }
+        ensures traded { result ≡ min lots (held_by (at side kind) (open_orders self.old.table)) }
+        ensures lines { length (tape_lines self.new.tape) ≤ length (tape_lines self.old.tape) + length (level side kind (open_orders self.old.table)) }
+    {
+        let held = lots_at(&self.table, side, kind);
+        let mut queue = [0; 256];
+        let places = self.table.gather(side, kind, &mut queue);
+        let mut shares = queue;
+        let part = &mut shares[0..places];
+        share_out(policy, &queue[0..places], held, lots, part);
+        self.table.apply(side, kind, part, price, &mut self.tape);
+        lots.min(held)
+    }
 }

@@ -3,11 +3,12 @@
 #![tactic(auto)]
 
 mod entry;
+mod floor;
 mod level;
 mod opening;
 mod pricing;
 mod route;
+mod span;
 
-pub use entry::enter;
-pub use opening::open_orders;
+pub use floor::Floor;
 pub use pricing::{price, volume};

@@ -1,5 +1,5 @@
 // The opening of a book: its three stages, or the withdrawal of its On-Open orders.
-ghost use Rattle.std.specs.Prelude.{◌≡◌, ◌+◌, ◌^◌, ◌<◌, ◌≤◌, true, not, [], length, if◌then◌else◌, filter};
+ghost use Rattle.std.specs.Prelude.{◌≡◌, ◌+◌, ◌^◌, ◌<◌, ◌≤◌, true, not, [], length, filter};
 ghost use Rattle.rules.specs.Sides.{is};
 ghost use Rattle.rules.specs.Orders.{level, on_open};
 ghost use Rattle.rules.specs.Price.{volume as volume_of, price_at};
@@ -13,26 +13,16 @@ ghost use Rattle.table.specs.Tables.{open_orders, tape_lines};
 ghost use Rattle.matching.specs.Answers.{answer_of};
 ghost use Rattle.matching.specs.Steps.{step_of};
 
-use crate::level::{lots_at, trade_level};
+use crate::floor::Floor;
+use crate::level::lots_at;
 use crate::pricing::{price, volume};
-use crate::route::walk;
+use crate::span::Span;
 use policy::Policy;
 use rules::calls::OpeningAnswer;
 use rules::order::{Kind, Side};
-use rules::tape::{TapeLine, Terms};
+use rules::tape::Terms;
 use table::table::{Change, Leaving, Prices, Table};
 use table::tape::Tape;
-
-// Stage one: the volume's lots of limit bids and of limit offers trade at the price, the better price first.
-fn trade_limits<P: Policy>(table: &mut Table, tape: &mut Tape, policy: &P, lots: u32, price: u32)
-    requires { tape_lines tape.old ≡ [] }
-    ensures exact { step_of table.new tape.new ≡ stage_one (P.Policy.rule policy.now) price lots (step_of table.old tape.old) }
-    ensures lines { length (tape_lines tape.new) + (length (level Bid OnOpen (open_orders table.new)) + length (level Offer OnOpen (open_orders table.new))) ≤ 256 }
-{
-    let terms = Terms::Opening(price);
-    walk(table, tape, policy, terms, Side::Bid, Prices::Any, lots);
-    walk(table, tape, policy, terms, Side::Offer, Prices::Any, lots);
-}
 
 // The lots that both sides of a level can trade.
 fn lesser(table: &Table, kind: Kind) -> u32
@@ -42,61 +32,16 @@ fn lesser(table: &Table, kind: Kind) -> u32
     bids.min(lots_at(table, Side::Offer, kind))
 }
 
-// The bids and the offers of one level trade at the price, as many lots as the lesser side holds.
-fn cross<P: Policy>(table: &mut Table, tape: &mut Tape, policy: &P, price: u32, kind: Kind)
-    requires { length (tape_lines tape.old) ≤ 256 }
-    ensures exact { step_of table.new tape.new ≡ crossed (P.Policy.rule policy.now) price kind (step_of table.old tape.old) }
-    ensures lines { length (tape_lines tape.new) ≤ length (tape_lines tape.old) + (length (level Bid kind (open_orders table.old)) + length (level Offer kind (open_orders table.old))) }
-{
-    let lots = lesser(table, kind);
-    trade_level(table, tape, policy, price, Side::Bid, kind, lots);
-    trade_level(table, tape, policy, price, Side::Offer, kind, lots);
-}
-
-// Stage two: the On-Open orders trade with each other, and what is left of them becomes limit orders at the price.
-fn trade_on_open<P: Policy>(table: &mut Table, tape: &mut Tape, policy: &P, price: u32)
-    requires within { price_fits price ≡ true }
-    requires room { length (tape_lines tape.old) ≤ 256 }
-    ensures exact { step_of table.new tape.new ≡ turned price (crossed (P.Policy.rule policy.now) price OnOpen (step_of table.old tape.old)) }
-    ensures lines { length (tape_lines tape.new) ≤ length (tape_lines tape.old) + (length (level Bid OnOpen (open_orders table.old)) + length (level Offer OnOpen (open_orders table.old))) }
-{
-    cross(table, tape, policy, price, Kind::OnOpen);
-    table.change(Change::Turn(price));
-}
-
-// The three stages: limit orders with each other; On-Open orders with each other; and what is left of the On-Open
-// orders, as limit orders at the price, with the limit orders there.
-fn trade_opening<P: Policy>(table: &mut Table, tape: &mut Tape, policy: &P, lots: u32, price: u32)
-    requires empty { tape_lines tape.old ≡ [] }
-    requires within { price_fits price ≡ true }
-    ensures { step_of table.new tape.new ≡ stages (P.Policy.rule policy.now) price lots (open_orders table.old) }
-{
-    trade_limits(table, tape, policy, lots, price);
-    trade_on_open(table, tape, policy, price);
-    cross(table, tape, policy, price, Kind::Limit(price));
-}
-
-// The lots of a bid's line, else none.
-fn bought_by(line: TapeLine) -> u32
-    ensures { result ≡ (if is Bid line.side then line.lots else 0) }
-{
-    if Side::Bid.is(line.side) {
-        line.lots
-    } else {
-        0
-    }
-}
-
 // The lots bought by the lines of a tape.
 fn bought(tape: &Tape) -> u32
     requires { lined (λ n s. is Bid s) (tape_lines tape.now) < 2 ^ 32 }
     ensures { result ≡ lined (λ n s. is Bid s) (tape_lines tape.now) }
 {
-    let mut sum = 0;
-    for line in tape.lines() {
-        sum += bought_by(*line);
-    }
-    sum
+    tape.lines()
+        .iter()
+        .filter(|line| line.side == Side::Bid)
+        .map(|line| line.lots)
+        .sum()
 }
 
 // Withdraws the On-Open orders, and answers their lots, of bids and of offers.
@@ -107,51 +52,100 @@ fn withdraw_on_open(table: &mut Table) -> (u32, u32)
     table.withdraw(Leaving::OnOpen)
 }
 
-// Opens a book of the volume: with a price its orders trade, without one its On-Open orders are withdrawn.
-fn open_at<P: Policy>(
-    table: &mut Table,
-    tape: &mut Tape,
-    policy: &P,
-    lots: u32,
-    price: Option<u32>,
-) -> OpeningAnswer
-    requires empty { tape_lines tape.old ≡ [] }
-    requires volume { lots ≡ volume_of (open_orders table.old) }
-    requires price { price ≡ price_at lots (open_orders table.old) }
-    ensures orders { open_orders table.new ≡ (opened_at (P.Policy.rule policy.now) (open_orders table.old) lots price).orders }
-    ensures written { tape_lines tape.new ≡ (opened_at (P.Policy.rule policy.now) (open_orders table.old) lots price).tape }
-    ensures answer { result ≡ answer_of (opened_at (P.Policy.rule policy.now) (open_orders table.old) lots price) }
-{
-    match price {
-        Some(p) => {
-            trade_opening(table, tape, policy, lots, p);
-            OpeningAnswer {
-                volume: lots,
-                total: bought(tape),
-                withdrawn: 0,
-                price,
+impl Floor {
+    // Stage one: the volume's lots of limit bids and of limit offers trade at the price, the better price first.
+    fn trade_limits<P: Policy>(&mut self, policy: &P, lots: u32, price: u32)
+        requires { tape_lines self.old.tape ≡ [] }
+        ensures exact { step_of self.new ≡ stage_one (P.Policy.rule policy.now) price lots (step_of self.old) }
+        ensures lines { length (tape_lines self.new.tape) + (length (level Bid OnOpen (open_orders self.new.table)) + length (level Offer OnOpen (open_orders self.new.table))) ≤ 256 }
+    {
+        let terms = Terms::Opening(price);
+        let bids = Span {
+            side: Side::Bid,
+            prices: Prices::Any,
+        };
+        let offers = Span {
+            side: Side::Offer,
+            prices: Prices::Any,
+        };
+        self.walk(policy, terms, bids, lots);
+        self.walk(policy, terms, offers, lots);
+    }
+
+    // The bids and the offers of one level trade at the price, as many lots as the lesser side holds.
+    fn cross<P: Policy>(&mut self, policy: &P, price: u32, kind: Kind)
+        requires { length (tape_lines self.old.tape) ≤ 256 }
+        ensures exact { step_of self.new ≡ crossed (P.Policy.rule policy.now) price kind (step_of self.old) }
+        ensures lines { length (tape_lines self.new.tape) ≤ length (tape_lines self.old.tape) + (length (level Bid kind (open_orders self.old.table)) + length (level Offer kind (open_orders self.old.table))) }
+    {
+        let lots = lesser(&self.table, kind);
+        self.trade_level(policy, price, Side::Bid, kind, lots);
+        self.trade_level(policy, price, Side::Offer, kind, lots);
+    }
+
+    // Stage two: the On-Open orders trade with each other, and what is left of them becomes limit orders at the price.
+    fn trade_on_open<P: Policy>(&mut self, policy: &P, price: u32)
+        requires within { price_fits price ≡ true }
+        requires room { length (tape_lines self.old.tape) ≤ 256 }
+        ensures exact { step_of self.new ≡ turned price (crossed (P.Policy.rule policy.now) price OnOpen (step_of self.old)) }
+        ensures lines { length (tape_lines self.new.tape) ≤ length (tape_lines self.old.tape) + (length (level Bid OnOpen (open_orders self.old.table)) + length (level Offer OnOpen (open_orders self.old.table))) }
+    {
+        self.cross(policy, price, Kind::OnOpen);
+        self.table.change(Change::Turn(price));
+    }
+
+    // The three stages: limit orders with each other; On-Open orders with each other; and what is left of the On-Open
+    // orders, as limit orders at the price, with the limit orders there.
+    fn trade_opening<P: Policy>(&mut self, policy: &P, lots: u32, price: u32)
+        requires empty { tape_lines self.old.tape ≡ [] }
+        requires within { price_fits price ≡ true }
+        ensures { step_of self.new ≡ stages (P.Policy.rule policy.now) price lots (open_orders self.old.table) }
+    {
+        self.trade_limits(policy, lots, price);
+        self.trade_on_open(policy, price);
+        self.cross(policy, price, Kind::Limit(price));
+    }
+
+    // Opens a book of the volume: with a price its orders trade, without one its On-Open orders are withdrawn.
+    fn open_at<P: Policy>(&mut self, policy: &P, lots: u32, price: Option<u32>) -> OpeningAnswer
+        requires empty { tape_lines self.old.tape ≡ [] }
+        requires volume { lots ≡ volume_of (open_orders self.old.table) }
+        requires price { price ≡ price_at lots (open_orders self.old.table) }
+        ensures orders { open_orders self.new.table ≡ (opened_at (P.Policy.rule policy.now) (open_orders self.old.table) lots price).orders }
+        ensures written { tape_lines self.new.tape ≡ (opened_at (P.Policy.rule policy.now) (open_orders self.old.table) lots price).tape }
+        ensures answer { result ≡ answer_of (opened_at (P.Policy.rule policy.now) (open_orders self.old.table) lots price) }
+    {
+        match price {
+            Some(p) => {
+                self.trade_opening(policy, lots, p);
+                OpeningAnswer {
+                    volume: lots,
+                    total: bought(&self.tape),
+                    withdrawn: 0,
+                    price,
+                }
             }
-        }
-        None => {
-            let (bids, offers) = withdraw_on_open(table);
-            OpeningAnswer {
-                volume: lots,
-                total: 0,
-                withdrawn: bids + offers,
-                price,
+            None => {
+                let (bids, offers) = withdraw_on_open(&mut self.table);
+                OpeningAnswer {
+                    volume: lots,
+                    total: 0,
+                    withdrawn: bids + offers,
+                    price,
+                }
             }
         }
     }
-}
 
-// Opens a book.
-pub fn open_orders<P: Policy>(table: &mut Table, tape: &mut Tape, policy: &P) -> OpeningAnswer
-    ensures orders { open_orders table.new ≡ (opened (P.Policy.rule policy.now) (open_orders table.old)).orders }
-    ensures written { tape_lines tape.new ≡ (opened (P.Policy.rule policy.now) (open_orders table.old)).tape }
-    ensures answer { result ≡ answer_of (opened (P.Policy.rule policy.now) (open_orders table.old)) }
-{
-    tape.clear();
-    let lots = volume(table);
-    let found = price(table, lots);
-    open_at(table, tape, policy, lots, found)
+    // Opens a book.
+    pub fn open_orders<P: Policy>(&mut self, policy: &P) -> OpeningAnswer
+        ensures orders { open_orders self.new.table ≡ (opened (P.Policy.rule policy.now) (open_orders self.old.table)).orders }
+        ensures written { tape_lines self.new.tape ≡ (opened (P.Policy.rule policy.now) (open_orders self.old.table)).tape }
+        ensures answer { result ≡ answer_of (opened (P.Policy.rule policy.now) (open_orders self.old.table)) }
+    {
+        self.tape.clear();
+        let lots = volume(&self.table);
+        let found = price(&self.table, lots);
+        self.open_at(policy, lots, found)
+    }
 }

@@ -1,89 +1,40 @@
 // The volume and the price at which a book would open.
-ghost use Rattle.std.specs.Prelude.{◌≡◌, min, max, ◌&&◌, [], ◌∷◌, if◌then◌else◌, Some, None, filter, nat_lt};
+ghost use Rattle.std.specs.Prelude.{◌≡◌, ℕ, min, max, Bool, ◌&&◌, if◌then◌else◌, Some, None, filter, nat_lt};
 ghost use Rattle.rules.specs.Sides.{midpoint};
 ghost use Rattle.rules.specs.Orders.{prices};
-ghost use Rattle.rules.specs.Price.{most_of, tradable as tradable_of, volume as volume_of, price_at, untraded, highest, lowest};
+ghost use Rattle.rules.specs.Price.{tradable as tradable_of, volume as volume_of, price_at, untraded, highest, lowest};
 ghost use Rattle.rules.specs.declared.order.Side.TheVariants.{Bid, Offer};
 ghost use Rattle.table.specs.Tables.{open_orders};
-ghost use Rattle.matching.specs.Ends.{looked_at, start_of, further, furthest_from, furthest};
+ghost use Rattle.matching.specs.Tests.{Tells};
 
 use rules::limits::{HIGHEST_PRICE, LOWEST_PRICE};
-use rules::order::{Order, Side};
+use rules::order::Side;
 use table::table::{Prices, Table};
 
-// Which of a side's prices are looked at, where v lots trade: all, those that trade, or those that are left.
-#[derive(Clone, Copy)]
-pub enum Among {
-    All,
-    Traded(u32),
-    Untraded(u32),
-}
-
-#[derive(Clone, Copy)]
-pub enum End {
-    Highest,
-    Lowest,
-}
-
-impl Among {
-    fn has(self, table: &Table, side: Side, x: u32) -> bool
-        ensures { result ≡ looked_at self side (open_orders table.now) x }
-    {
-        match self {
-            Among::All => true,
-            Among::Traded(v) => table.lots(side, Prices::BetterThan(x)) < v,
-            Among::Untraded(v) => v < table.lots(side, Prices::AsGoodAs(x)),
-        }
-    }
-}
-
-impl End {
-    // Where there is no price: the other end of the range.
-    fn start(self) -> u32
-        ensures { result ≡ start_of self }
-    {
-        match self {
-            End::Highest => LOWEST_PRICE,
-            End::Lowest => HIGHEST_PRICE,
-        }
-    }
-
-    fn further(self, x: u32, y: u32) -> u32
-        ensures { result ≡ further self x y }
-    {
-        match self {
-            End::Highest => x.max(y),
-            End::Lowest => x.min(y),
-        }
-    }
-}
-
-// The price found so far, and that of one order more if it is looked at.
-fn with_order(table: &Table, side: Side, among: Among, end: End, found: u32, o: Order) -> u32
-    ensures { result ≡ furthest_from end found (filter (looked_at among side (open_orders table.now)) (prices side (o ∷ []))) }
+// The highest of a side's prices that pass; of none, the end of the range.
+fn highest<F: Fn(u32) -> bool>(table: &Table, side: Side, passes: F) -> u32
+    requires { F.IsAlwaysCallable passes }
+    ensures { (test : ℕ → Bool) → Tells (F.post passes) test → result ≡ highest (filter test (prices side (open_orders table.now))) }
 {
-    match o.limit(side) {
-        Some(x) if among.has(table, side, x) => end.further(found, x),
-        _ => found,
-    }
+    table
+        .orders()
+        .iter()
+        .filter_map(|o| o.limit(side))
+        .filter(|x| passes(*x))
+        .fold(LOWEST_PRICE, u32::max)
 }
 
-// The highest or the lowest of the side's prices that are looked at.
-fn extreme(table: &Table, side: Side, among: Among, end: End) -> u32
-    ensures { result ≡ furthest end (filter (looked_at among side (open_orders table.now)) (prices side (open_orders table.now))) }
+// The lowest of a side's prices that pass; of none, the end of the range.
+fn lowest<F: Fn(u32) -> bool>(table: &Table, side: Side, passes: F) -> u32
+    requires { F.IsAlwaysCallable passes }
+    ensures { (test : ℕ → Bool) → Tells (F.post passes) test → result ≡ lowest (filter test (prices side (open_orders table.now))) }
 {
-    let mut found = end.start();
-    for o in table.orders() {
-        found = with_order(table, side, among, end, found, *o);
-    }
-    found
-}
-
-// Half the sum, rounded down.
-fn middle(a: u32, b: u32) -> u32
-    ensures { result ≡ midpoint a b }
-{
-    ((a as u64 + b as u64) / 2) as u32
+    table
+        .orders()
+        .iter()
+        .filter_map(|o| o.limit(side))
+        .filter(|x| passes(*x))
+        .fold(HIGHEST_PRICE, u32::min)
 }
 
 // The lots of limit orders that could trade with each other at q.
@@ -94,25 +45,17 @@ fn tradable(table: &Table, q: u32) -> u32
     bids.min(table.lots(Side::Offer, Prices::AsGoodAs(q)))
 }
 
-// The lots that could trade at the price of a limit bid; of another order none.
-fn tradable_at(table: &Table, o: Order) -> u32
-    ensures { result ≡ most_of (tradable_of (open_orders table.now)) (prices Bid (o ∷ [])) }
-{
-    match o.limit(Side::Bid) {
-        Some(q) => tradable(table, q),
-        None => 0,
-    }
-}
-
 // The lots of limit orders that trade with each other at the opening.
 pub fn volume(table: &Table) -> u32
     ensures { result ≡ volume_of (open_orders table.now) }
 {
-    let mut most: u32 = 0;
-    for o in table.orders() {
-        most = most.max(tradable_at(table, *o));
-    }
-    most
+    table
+        .orders()
+        .iter()
+        .filter_map(|o| o.limit(Side::Bid))
+        .map(|q| tradable(table, q))
+        .max()
+        .unwrap_or(0)
 }
 
 // The price where both sides have lots left: the middle between the lower of the lowest traded bid and the lowest
@@ -120,9 +63,18 @@ pub fn volume(table: &Table) -> u32
 fn price_between(table: &Table, v: u32, last_bid: u32, last_offer: u32) -> u32
     ensures { result ≡ midpoint (min last_bid (lowest (untraded Offer v (open_orders table.now)))) (max last_offer (highest (untraded Bid v (open_orders table.now)))) }
 {
-    let x = last_bid.min(extreme(table, Side::Offer, Among::Untraded(v), End::Lowest));
-    let y = last_offer.max(extreme(table, Side::Bid, Among::Untraded(v), End::Highest));
-    middle(x, y)
+    let offer = lowest(
+        table,
+        Side::Offer,
+        |x| v < table.lots(Side::Offer, Prices::AsGoodAs(x)),
+    );
+    let bid = highest(
+        table,
+        Side::Bid,
+        |x| v < table.lots(Side::Bid, Prices::AsGoodAs(x)),
+    );
+    let x = last_bid.min(offer);
+    x.midpoint(last_offer.max(bid))
 }
 
 // The price where no lot trades: the middle between the best bid and the best offer, if both sides have lots.
@@ -132,8 +84,8 @@ fn price_untraded(table: &Table, bids: u32, offers: u32) -> Option<u32>
     if bids == 0 || offers == 0 {
         return None;
     }
-    let bid = extreme(table, Side::Bid, Among::All, End::Highest);
-    Some(middle(bid, extreme(table, Side::Offer, Among::All, End::Lowest)))
+    let bid = highest(table, Side::Bid, |_| true);
+    Some(bid.midpoint(lowest(table, Side::Offer, |_| true)))
 }
 
 // The opening price, if there is one, where v lots of limit orders trade.
@@ -145,10 +97,18 @@ pub fn price(table: &Table, v: u32) -> Option<u32>
     if v == 0 {
         return price_untraded(table, bids, offers);
     }
-    let last_bid = extreme(table, Side::Bid, Among::Traded(v), End::Lowest);
-    let last_offer = extreme(table, Side::Offer, Among::Traded(v), End::Highest);
+    let last_bid = lowest(
+        table,
+        Side::Bid,
+        |x| table.lots(Side::Bid, Prices::BetterThan(x)) < v,
+    );
+    let last_offer = highest(
+        table,
+        Side::Offer,
+        |x| table.lots(Side::Offer, Prices::BetterThan(x)) < v,
+    );
     if bids <= v && offers <= v {
-        Some(middle(last_offer, last_bid))
+        Some(last_offer.midpoint(last_bid))
     } else if bids <= v {
         Some(last_offer)
     } else if offers <= v {

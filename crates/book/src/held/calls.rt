@@ -37,7 +37,7 @@ impl<O, S> Held<O, S> {
         lots: u32,
         t: TimeInForce,
     ) -> EntryAnswer
-        requires room { length (open_orders self.old.table) < 256 }
+        requires room { length (open_orders self.old.floor.table) < 256 }
         requires number { self.old.next < 4294967295 }
         requires fit { entry_fits kind lots ≡ true }
         ensures step { (phase : PhaseOf) → Gives (wait (machine phase self.old) id side kind lots t) (Entered result) (machine phase self.new) }
@@ -45,7 +45,7 @@ impl<O, S> Held<O, S> {
     {
         let number = self.next;
         let lifetime = self.lifetime(t);
-        self.table.push(Order {
+        self.floor.table.push(Order {
             number,
             id,
             side,
@@ -67,9 +67,9 @@ impl<O, S> Held<O, S> {
         ensures policies { SamePolicies self.old self.new }
     {
         self.check_id(id)?;
-        let order = self.table.find(number);
+        let order = self.floor.table.find(number);
         check_order(id, order)?;
-        self.table.remove(number);
+        self.floor.table.remove(number);
         Ok(open_lots(order))
     }
 
@@ -78,25 +78,25 @@ impl<O, S> Held<O, S> {
         ensures policies { SamePolicies self.old self.new }
     {
         self.check_id(id)?;
-        let order = self.table.find(number);
+        let order = self.floor.table.find(number);
         check_reduction(id, order, lots)?;
-        self.table.reduce(number, lots);
+        self.floor.table.reduce(number, lots);
         Ok(open_lots(order) - lots)
     }
 
     // The orders that do not outlive the line pass to its heir, or are withdrawn where there is none.
     fn hand_over(&mut self, id: u8, heir: Option<u8>) -> (u32, u32)
-        ensures orders { open_orders self.new.table ≡ handed id heir (open_orders self.old.table) }
-        ensures lots { result ≡ dropped_lots id heir (open_orders self.old.table) }
+        ensures orders { open_orders self.new.floor.table ≡ handed id heir (open_orders self.old.floor.table) }
+        ensures lots { result ≡ dropped_lots id heir (open_orders self.old.floor.table) }
         ensures rest { (phase : PhaseOf) → with_orders (machine phase self.new) [] ≡ with_orders (machine phase self.old) [] }
         ensures policies { SamePolicies self.old self.new }
     {
         match heir {
             Some(to) => {
-                self.table.change(Change::Pass { from: id, to });
+                self.floor.table.change(Change::Pass { from: id, to });
                 (0, 0)
             }
-            None => self.table.withdraw(Leaving::OfLine(id)),
+            None => self.floor.table.withdraw(Leaving::OfLine(id)),
         }
     }
 
@@ -140,8 +140,7 @@ impl<O, S> Held<O, S> {
             last: _,
             next: _,
             hours: _,
-            table: _,
-            tape: _,
+            floor: _,
             lines: _,
             opening,
             session,

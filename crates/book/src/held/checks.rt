@@ -96,7 +96,7 @@ impl<O, S> Held<O, S> {
     fn check_room(&self) -> Result<(), Refusal>
         ensures { result ≡ verdict (first (room_checks (machine PreOpen self.now))) }
     {
-        unless(self.table.len() >= MOST_ORDERS, Refusal::BookFull)?;
+        unless(self.floor.table.len() >= MOST_ORDERS, Refusal::BookFull)?;
         unless(self.next > LAST_NUMBER, Refusal::NumbersUsedUp)
     }
 
@@ -149,7 +149,7 @@ impl<O, S> Held<O, S> {
     {
         unless(!self.ladder.takes(t.price), Refusal::PriceNotTaken)?;
         unless(outside(1, MOST_LOTS, t.lots), Refusal::VolumeOutOfRange)?;
-        unless(self.table.len() >= MOST_ORDERS, Refusal::BookFull)
+        unless(self.floor.table.len() >= MOST_ORDERS, Refusal::BookFull)
     }
 
     pub(crate) fn check_line_up(&self, id: u8) -> Result<(), Refusal>

@@ -15,7 +15,7 @@ impl<O, S> Held<O, S> {
     {
         let hours = self.hours;
         let today = self.today;
-        let lots = self.table.withdraw(Leaving::AtClose { hours, today });
+        let lots = self.floor.table.withdraw(Leaving::AtClose { hours, today });
         self.today = hours.next_day(today, self.last);
         self.hours = hours.next();
         lots

@@ -17,12 +17,12 @@ impl<O: Policy, S: Policy> Held<O, S> {
     pub(crate) fn meet(&mut self, e: Incoming) -> EntryAnswer
         requires next { e.number ≡ self.old.next }
         requires number { self.old.next < 4294967295 }
-        requires room { room_for e.limit (open_orders self.old.table) ≡ true }
+        requires room { room_for e.limit (open_orders self.old.floor.table) ≡ true }
         requires few { e.lots ≤ 9999 }
         ensures step { Gives (meet (rules_of O.Policy.rule S.Policy.rule self.old) (machine Open self.old) e) (Entered result) (machine Open self.new) }
         ensures policies { SamePolicies self.old self.new }
     {
         self.next += 1;
-        matching::enter(&mut self.table, &mut self.tape, &self.session, e)
+        self.floor.enter(&self.session, e)
     }
 }

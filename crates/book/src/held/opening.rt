@@ -14,6 +14,6 @@ impl<O: Policy, S: Policy> Held<O, S> {
         ensures step { Gives (open_book (rules_of O.Policy.rule S.Policy.rule self.old) (machine PreOpen self.old)) (Opened result) (machine Open self.new) }
         ensures policies { SamePolicies self.old self.new }
     {
-        matching::open_orders(&mut self.table, &mut self.tape, &self.opening)
+        self.floor.open_orders(&self.opening)
     }
 }

@@ -26,13 +26,13 @@ impl<P: Stage, O: Policy, S: Policy> Book<P, O, S> {
     pub fn orders(&self) -> &[Order]
         ensures { result.now ≡ (machine P.Stage.phase self.now.held).orders }
     {
-        self.held.table.orders()
+        self.held.floor.table.orders()
     }
 
     pub fn tape(&self) -> &[TapeLine]
         ensures { result.now ≡ (machine P.Stage.phase self.now.held).tape }
     {
-        self.held.tape.lines()
+        self.held.floor.tape.lines()
     }
 
     // Takes the book apart.

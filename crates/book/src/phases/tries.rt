@@ -21,9 +21,9 @@ impl<O: Policy, S: Policy> Book<Waiting, O, S> {
     {
         self.held.check_trial(t)?;
         let number = self.held.next;
-        let len = self.held.table.len();
+        let len = self.held.floor.table.len();
         let guard = TrialGuard {
-            table: &mut self.held.table,
+            table: &mut self.held.floor.table,
             len,
         };
         guard.table.push(Order {

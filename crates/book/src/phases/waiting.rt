@@ -9,6 +9,7 @@ ghost use Rattle.book.specs.Model.{waiting, rules_of, Gives, SamePolicies, said}
 use super::Book;
 use crate::held::Held;
 use crate::stage::Waiting;
+use matching::Floor;
 use policy::Policy;
 use rules::calls::{EntryAnswer, Hours, LimitEntry, OnOpenEntry, Phase};
 use rules::ladder::Ladder;
@@ -49,8 +50,10 @@ impl<O: Policy, S: Policy> Book<Waiting, O, S> {
                 last: today.max(nearest_day(last)),
                 next: first_number.max(1),
                 hours: Hours::Day,
-                table: Table::new(),
-                tape: Tape::new(),
+                floor: Floor {
+                    table: Table::new(),
+                    tape: Tape::new(),
+                },
                 lines: Lines::new(),
                 opening,
                 session,

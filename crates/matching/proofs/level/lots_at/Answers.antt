@@ -1,40 +1,24 @@
-use Rattle.std.proofs.Common.{◌≡◌, ◌+◌, ◌<◌, ◌≤◌, cond, List, length, get_or, drop, ap, ◌∙◌, subst, arith}
-use Rattle.std.proofs.lemmas.List.{at_drop_more, at_drop_all}
+use Rattle.std.proofs.Common.{◌≡◌, ◌<◌, ◌^◌, sum_by, filter, refl, sym, ◌∙◌, arith, rules, tests}
+use Rattle.std.proofs.lemmas.Iterator.{YieldsList-from_slice, YieldsList-from_map}
+use Rattle.std.proofs.lemmas.Iterator.Consumers.{YieldsList-at, YieldsList-from_filter, sum_by_from_yields_List, fits_by_from_yields_list}
 use Rattle.rules.specs.declared.order.Order.{Order}
 use Rattle.rules.specs.Orders.{held, at}
 use Rattle.rules.proofs.Held.{held_fits}
 use Rattle.table.specs.Tables.{open_orders}
 use Rattle.table.proofs.Fit.{table_book}
-use Rattle.matching.proofs.Loops.{blank}
+use Rattle.matching.proofs.Chains.{kept_sum}
 use Rattle.matching.proofs.level.lots_at.Goals as goal
-use Rattle.matching.proofs.level.lots_at.Goals.{After-counted-sum}
 
--- One order more.
-next : (c : goal.After-counted-sum) → (c.loop-o.sum + c.counted-sum.result) + held (at c.args.side c.args.kind) (drop (c.loop-o.o-index + 1) (open_orders c.args.table.now)) ≡ held (at c.args.side c.args.kind) (open_orders c.args.table.now)
-next c =
+pub sum-requires-clause-fits : goal.sum-requires-clause-fits
+sum-requires-clause-fits c =
     let os = open_orders c.args.table.now in
     let t : Order → _ = at c.args.side c.args.kind in
-    let i = c.loop-o.o-index in
-    let e : c.orders-o-items.result.now ≡ os = c.orders-o-items.ensures in
-    let h : i < length os = subst (λ (l : List Order). i < length l) e c.loop-o-test.true in
-    let step : held t (drop i os) ≡ cond (t (get_or os i blank)) (get_or os i blank).lots 0 + held t (drop (i + 1) os) = at_drop_more (held t) os i blank h in
-    let here : c.counted-sum.result ≡ cond (t (get_or os i blank)) (get_or os i blank).lots 0 = c.counted-sum.ensures ∙ ap (λ (l : List Order). cond (t (get_or l i blank)) (get_or l i blank).lots 0) e in
-    omega (arith, c.loop-o.invariant)
-
-pub overflow_add-sum : goal.overflow_add-sum
-overflow_add-sum c =
-    let os = open_orders c.args.table.now in
-    omega (arith, next (goal.at.overflow_add-sum c).After-counted-sum, held_fits (at c.args.side c.args.kind) os (table_book c.args.table.now))
-
-pub loop-o-preserved : goal.loop-o-preserved
-loop-o-preserved c = next (goal.at.loop-o-preserved c).After-counted-sum
+    let fits : sum_by (λ (o : Order). o.lots) (filter t os) < 2 ^ 32 = omega (arith, kept_sum (held t) t (λ o. o.lots) refl (λ _ _. refl) os, held_fits t os (table_book c.args.table.now)) in
+    fits_by_from_yields_list _ _ c.map.result _ (YieldsList-from_map _ (λ o. o.lots) (YieldsList-at c.map.ensures.source (YieldsList-from_filter _ t (YieldsList-from_slice os cc) c.filter.ensures.closure (λ x r q k. search (rules, tests)))) c.map.ensures.closure (λ x r q k. search (rules, tests))) fits
 
 pub returns : goal.returns
 returns c =
     let os = open_orders c.args.table.now in
-    let i = c.loop-o.o-index in
-    let e : c.orders-o-items.result.now ≡ os = c.orders-o-items.ensures in
-    let h = ap length e in
-    let le : length os ≤ i = omega arith in
-    let end : held (at c.args.side c.args.kind) (drop i os) ≡ 0 = at_drop_all (held (at c.args.side c.args.kind)) os i le in
-    omega (arith, c.loop-o.invariant)
+    let t : Order → _ = at c.args.side c.args.kind in
+    sum_by_from_yields_List _ _ c.map.result _ c.sum.ensures.ran (YieldsList-from_map _ (λ o. o.lots) (YieldsList-at c.map.ensures.source (YieldsList-from_filter _ t (YieldsList-from_slice os cc) c.filter.ensures.closure (λ x r q k. search (rules, tests)))) c.map.ensures.closure (λ x r q k. search (rules, tests)))
+    ∙ sym (kept_sum (held t) t (λ o. o.lots) refl (λ _ _. refl) os)

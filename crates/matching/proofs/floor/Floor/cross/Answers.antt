@@ -1,0 +1,54 @@
+use Rattle.std.proofs.Common.{◌≡◌, ℕ, length, ap, ◌∙◌, arith}
+use Rattle.policy.specs.Fair.{Rule}
+use Rattle.rules.specs.declared.order.Side.TheVariants.{Bid, Offer}
+use Rattle.rules.specs.declared.order.Kind.{Kind}
+use Rattle.rules.specs.declared.tape.Terms.TheVariants.{Opening}
+use Rattle.rules.specs.Orders.{level}
+use Rattle.rules.specs.Trades.{Step, fill}
+use Rattle.rules.specs.Opening.{lesser, cross}
+use Rattle.table.specs.Tables.{open_orders}
+use Rattle.table.proofs.Fit.{table_book}
+use Rattle.matching.specs.Steps.{step_of}
+use Rattle.matching.proofs.Counts.{fill_lines}
+use Rattle.matching.proofs.Stages.{both_levels, level_after, cross_lines}
+use Rattle.matching.proofs.floor.Floor.cross.Goals as goal
+
+pub trade_level-requires : goal.trade_level-requires
+trade_level-requires g c =
+    let t = c.args.self.now.table in
+    omega (arith, c.requires, both_levels c.args.kind (open_orders t), (table_book t).few)
+
+pub trade_level-requires-2 : goal.trade_level-requires-2
+trade_level-requires-2 g c =
+    let m = step_of c.args.self.now in
+    let rule = g.P.Policy.rule c.args.policy.now in
+    let fair = g.met.P.Policy.fair c.args.policy.now in
+    let v = c.lesser-lots.result in
+    let k = c.args.kind in
+    let e = c.trade_level.ensures.exact in
+    omega (
+      arith,
+      c.requires,
+      both_levels k m.orders,
+      (table_book c.args.self.now.table).few,
+      ap (λ (z : Step). length z.tape) e,
+      ap (λ (z : Step). length (level Offer k z.orders)) e,
+      fill_lines rule fair Bid v m (table_book c.args.self.now.table) c.args.price k,
+      level_after rule (Opening c.args.price) Bid Offer v k m,
+    )
+
+-- Both sides trade as many lots as the lesser holds.
+both : (rule : Rule) (p v : ℕ) (k : Kind) (m n z : Step) → v ≡ lesser k m.orders → n ≡ fill rule (Opening p) Bid v k m → z ≡ fill rule (Opening p) Offer v k n → z ≡ cross rule p k m
+both rule p v k m n z is e f = f ∙ (ap (fill rule (Opening p) Offer v k) e ∙ ap (λ (w : ℕ). fill rule (Opening p) Offer w k (fill rule (Opening p) Bid w k m)) is)
+
+pub returns : goal.returns
+returns g c =
+    let m = step_of c.args.self.now in
+    let rule = g.P.Policy.rule c.args.policy.now in
+    let fair = g.met.P.Policy.fair c.args.policy.now in
+    let k = c.args.kind in
+    let exact = both rule c.args.price c.lesser-lots.result k m (step_of c.trade_level.new.self) (step_of c.trade_level-2.new.self) c.lesser-lots.ensures c.trade_level.ensures.exact c.trade_level-2.ensures.exact in
+    record {
+      exact = exact;
+      lines = omega (arith, ap (λ (z : Step). length z.tape) exact, cross_lines rule fair c.args.price k m (table_book c.args.self.now.table));
+    }

@@ -2,7 +2,7 @@
 ghost use Rattle.std.specs.Prelude.{◌≡◌, ◌+◌, ◌≤◌, min, true, length};
 ghost use Rattle.policy.specs.Asked.{answered};
 ghost use Rattle.policy.specs.Fair.{total};
-ghost use Rattle.rules.specs.Orders.{at, level, held as held_by};
+ghost use Rattle.rules.specs.Orders.{at, level as level_of, held as held_by};
 ghost use Rattle.rules.specs.Trades.{shares as shares_of, fill};
 ghost use Rattle.rules.specs.declared.tape.Terms.TheVariants.{Opening};
 ghost use Rattle.table.specs.Tables.{open_orders, tape_lines};
@@ -10,17 +10,17 @@ ghost use Rattle.matching.specs.Steps.{step_of};
 
 use crate::floor::Floor;
 use policy::Policy;
-use rules::order::{Kind, Side};
+use rules::order::Level;
 use table::table::Table;
 
 // The lots of a level.
-pub(crate) fn lots_at(table: &Table, side: Side, kind: Kind) -> u32
-    ensures { result ≡ held_by (at side kind) (open_orders table.now) }
+pub(crate) fn lots_at(table: &Table, level: Level) -> u32
+    ensures { result ≡ held_by (at level.side level.kind) (open_orders table.now) }
 {
     table
         .orders()
         .iter()
-        .filter(|o| o.at(side, kind))
+        .filter(|o| o.at(level))
         .map(|o| o.lots)
         .sum()
 }
@@ -44,22 +44,19 @@ impl Floor {
         &mut self,
         policy: &P,
         price: u32,
-        side: Side,
-        kind: Kind,
+        level: Level,
         lots: u32,
     ) -> u32
-        requires { length (tape_lines self.old.tape) + length (level side kind (open_orders self.old.table)) ≤ 512 }
-        ensures exact { step_of self.new ≡ fill (P.Policy.rule policy.now) (Opening price) side lots kind (step_of self.old) }
-        ensures traded { result ≡ min lots (held_by (at side kind) (open_orders self.old.table)) }
-        ensures lines { length (tape_lines self.new.tape) ≤ length (tape_lines self.old.tape) + length (level side kind (open_orders self.old.table)) }
+        requires { length (tape_lines self.old.tape) + length (level_of level.side level.kind (open_orders self.old.table)) ≤ 512 }
+        ensures exact { step_of self.new ≡ fill (P.Policy.rule policy.now) (Opening price) level.side lots level.kind (step_of self.old) }
+        ensures traded { result ≡ min lots (held_by (at level.side level.kind) (open_orders self.old.table)) }
+        ensures lines { length (tape_lines self.new.tape) ≤ length (tape_lines self.old.tape) + length (level_of level.side level.kind (open_orders self.old.table)) }
     {
-        let held = lots_at(&self.table, side, kind);
-        let mut queue = [0; 256];
-        let places = self.table.gather(side, kind, &mut queue);
-        let mut shares = queue;
-        let part = &mut shares[0..places];
-        share_out(policy, &queue[0..places], held, lots, part);
-        self.table.apply(side, kind, part, price, &mut self.tape);
+        let held = lots_at(&self.table, level);
+        let queue = self.table.queue(level);
+        let mut shares = self.table.queue(level);
+        share_out(policy, &queue, held, lots, &mut shares);
+        self.table.apply(level, &shares, price, &mut self.tape);
         lots.min(held)
     }
 }

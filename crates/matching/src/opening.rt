@@ -19,7 +19,7 @@ use crate::pricing::{price, volume};
 use crate::span::Span;
 use policy::Policy;
 use rules::calls::OpeningAnswer;
-use rules::order::{Kind, Side};
+use rules::order::{Kind, Level, Side};
 use rules::tape::Terms;
 use table::table::{Change, Leaving, Prices, Table};
 use table::tape::Tape;
@@ -28,8 +28,8 @@ use table::tape::Tape;
 fn lesser(table: &Table, kind: Kind) -> u32
     ensures { result ≡ lesser_of kind (open_orders table.now) }
 {
-    let bids = lots_at(table, Side::Bid, kind);
-    bids.min(lots_at(table, Side::Offer, kind))
+    let bids = lots_at(table, Level { side: Side::Bid, kind });
+    bids.min(lots_at(table, Level { side: Side::Offer, kind }))
 }
 
 // The lots bought by the lines of a tape.
@@ -79,8 +79,8 @@ impl Floor {
         ensures lines { length (tape_lines self.new.tape) ≤ length (tape_lines self.old.tape) + (length (level Bid kind (open_orders self.old.table)) + length (level Offer kind (open_orders self.old.table))) }
     {
         let lots = lesser(&self.table, kind);
-        self.trade_level(policy, price, Side::Bid, kind, lots);
-        self.trade_level(policy, price, Side::Offer, kind, lots);
+        self.trade_level(policy, price, Level { side: Side::Bid, kind }, lots);
+        self.trade_level(policy, price, Level { side: Side::Offer, kind }, lots);
     }
 
     // Stage two: the On-Open orders trade with each other, and what is left of them becomes limit orders at the price.

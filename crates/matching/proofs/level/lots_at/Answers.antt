@@ -12,13 +12,13 @@ use Rattle.matching.proofs.level.lots_at.Goals as goal
 pub sum-requires-clause-fits : goal.sum-requires-clause-fits
 sum-requires-clause-fits c =
     let os = open_orders c.args.table.now in
-    let t : Order → _ = at c.args.side c.args.kind in
+    let t : Order → _ = at c.args.level.side c.args.level.kind in
     let fits : sum_by (λ (o : Order). o.lots) (filter t os) < 2 ^ 32 = omega (arith, kept_sum (held t) t (λ o. o.lots) refl (λ _ _. refl) os, held_fits t os (table_book c.args.table.now)) in
     fits_by_from_yields_list _ _ c.map.result _ (YieldsList-from_map _ (λ o. o.lots) (YieldsList-at c.map.ensures.source (YieldsList-from_filter _ t (YieldsList-from_slice os cc) c.filter.ensures.closure (λ x r q k. search (rules, tests)))) c.map.ensures.closure (λ x r q k. search (rules, tests))) fits
 
 pub returns : goal.returns
 returns c =
     let os = open_orders c.args.table.now in
-    let t : Order → _ = at c.args.side c.args.kind in
+    let t : Order → _ = at c.args.level.side c.args.level.kind in
     sum_by_from_yields_List _ _ c.map.result _ c.sum.ensures.ran (YieldsList-from_map _ (λ o. o.lots) (YieldsList-at c.map.ensures.source (YieldsList-from_filter _ t (YieldsList-from_slice os cc) c.filter.ensures.closure (λ x r q k. search (rules, tests)))) c.map.ensures.closure (λ x r q k. search (rules, tests)))
     ∙ sym (kept_sum (held t) t (λ o. o.lots) refl (λ _ _. refl) os)

@@ -17,7 +17,7 @@ trade_opening-requires g c =
     let t = c.args.self.now.table in
     let found = sym c.requires.price ∙ c.in-Some.is in
     record {
-      empty = c.requires.empty;
+      empty = c.clear.ensures;
       within = price_within (open_orders t) (table_book t) c.in-Some.p (price_is (open_orders t) c.args.lots (Some c.in-Some.p) c.requires.volume found);
     }
 
@@ -64,6 +64,6 @@ returns-in-None g c =
     let both : c.withdraw_on_open-bids.result.0 + c.withdraw_on_open-bids.result.1 ≡ held on_open os = ap (λ (r : ℕ × ℕ). r.0 + r.1) c.withdraw_on_open-bids.ensures.lots ∙ sym (withdrawn_both os) in
     record {
       orders = c.withdraw_on_open-bids.ensures.orders ∙ sym (ap (λ (o : Opened). o.orders) found);
-      written = c.requires.empty ∙ sym (ap (λ (o : Opened). o.tape) found);
+      written = c.clear.ensures ∙ sym (ap (λ (o : Opened). o.tape) found);
       answer = (λ i. record { volume = v; total = 0; withdrawn = both i; price = c.in-None.is i }) ∙ sym (ap answer_of found);
     }

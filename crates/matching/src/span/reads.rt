@@ -23,10 +23,7 @@ impl Span {
     {
         Span {
             side: e.side.other(),
-            prices: match e.limit {
-                None => Prices::Any,
-                Some(q) => Prices::AsGoodAs(q),
-            },
+            prices: e.limit.map_or(Prices::Any, Prices::AsGoodAs),
         }
     }
 

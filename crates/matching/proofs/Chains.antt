@@ -1,8 +1,14 @@
 -- What the code's chains come to, in the rules' words.
 use Rattle.std.proofs.Common.{◌≡◌, ℕ, ◌+◌, ◌≤◌, min, max, Bool, true, cond, List, [], ◌∷◌, map, Some, None, filter, Option, fold, sum_by, unwrap_or, refl, sym, ap, ◌∙◌, arith}
+use denote.Param.Members.{Mut}
+use Rattle.std.specs.Fn.{Called}
+use Rattle.std.specs.Iterator.{ReducesItems}
 use Rattle.std.specs.List.{filter_map, cons_option, reduce}
 use Rattle.std.proofs.lemmas.Bool.{cond_both}
-use Rattle.std.proofs.lemmas.List.Sums.{sum_by-cons}
+use Rattle.std.proofs.lemmas.Fn.{fold_same}
+use Rattle.std.proofs.lemmas.Iterator.{YieldsList, items_from_drains}
+use Rattle.std.proofs.lemmas.List.{map-id}
+use Rattle.std.proofs.lemmas.List.Sums.{sum_by-cons, fold_push}
 use Rattle.rules.specs.declared.order.Side.{Side}
 use Rattle.rules.specs.declared.order.Side.TheVariants.{Bid, Offer}
 use Rattle.rules.specs.declared.order.Kind.{Kind}
@@ -21,6 +27,13 @@ kept_sum F t f nil cons (x ∷ xs) =
     cons x xs ∙ cond_both (t x) (x ∷ filter t xs) (filter t xs) (λ z. cond (t x) (f x) 0 + F xs ≡ sum_by f z)
     (λ e. rw e (omega (arith, sum_by-cons f x (filter t xs), rest)))
     (λ e. rw e (omega (arith, rest)))
+
+-- `reduce`, where calls leave the closure as it was, and it computes h
+pub reduced : {S A F : Type 0} {steps : S → Option A → S → Type 0} {s : S} {all : List A} (g : Mut F (A × (A × Unit {0})) A) (h : A → A → A) {f : F} (r : Option A) → ReducesItems steps g s f r → YieldsList steps (λ x. x) s all → ((a x b : A) (q : F) → Called g f (a, (x, tt)) b q → (q ≡ f) × (b ≡ h a x)) → r ≡ reduce h all
+reduced g h None ran e k = ap (reduce h) (items_from_drains [] (ran.1.0, ran.1.1, λ _. (ran.0, ran.1.2)) e)
+reduced g h {f} (Some y) (x, xs, q, drained, folded) e k =
+    let last = fold_same g (λ zs b. b ≡ fold h x zs) f (λ zs a z b p j call. let m = k a z b p call in (m.1 ∙ ap (λ w. h w z) j ∙ sym (fold_push h x zs z), m.0)) xs x y q refl folded in
+    ap Some last ∙ ap (reduce h) (sym (map-id (x ∷ xs)) ∙ items_from_drains (x ∷ xs) (drained.1.0, drained.1.1, λ _. (drained.0, drained.1.2)) e)
 
 -- the prices of a side
 one_price : (s s' : Side) (k : Kind) (xs : List ℕ) → cond (is s s') (price_of k xs) xs ≡ cons_option (cond (is s s') (elim k [ Limit x ↦ Some x | OnOpen ↦ None ]) None) xs

@@ -1,5 +1,5 @@
 -- Prices in order: the first is the best, and a list in order is known by its members.
-use Rattle.std.proofs.Common.{◌≡◌, ℕ, ◌<◌, min, max, Bool, true, cond, eqb, ltb, ◌⊎◌, List, [], ◌∷◌, Some, None, filter, Option, fold, sym, refl, ap, ◌∙◌, subst, inl, inr, arith}
+use Rattle.std.proofs.Common.{◌≡◌, ℕ, ◌<◌, Bool, true, cond, eqb, ltb, ◌⊎◌, List, [], ◌∷◌, Some, None, filter, Option, fold, sym, refl, ap, ◌∙◌, subst, inl, inr, arith}
 use Rattle.std.specs.List.{AllByRecursion, reduce}
 use Rattle.std.proofs.lemmas.Bool.{cond_both}
 use Rattle.std.proofs.lemmas.Bool.Decides.{nat_tests}
@@ -13,14 +13,9 @@ use Rattle.rules.specs.Laws.{In}
 use Rattle.rules.proofs.Held.{lots_at, level_in, in_level}
 use Rattle.rules.proofs.Prices.{kept_in, in_kept}
 use Rattle.rules.proofs.Served.{Sorted, best_first_sorted, best_first_in, kept_sorted}
-use Rattle.matching.specs.Best.{first_of}
+use Rattle.matching.specs.Best.{first_of, better_of}
 
 -- ---- the first
-
--- the better of two prices
-abbrev pub better_of : Side → ℕ → ℕ → ℕ
-better_of Bid y x = max y x
-better_of Offer y x = min y x
 
 abbrev join : Side → ℕ → Option ℕ → ℕ
 join s a None = a
@@ -28,17 +23,17 @@ join s a (Some x) = better_of s a x
 
 first_into : (s : Side) (x : ℕ) (ys : List ℕ) → first_of (into s x ys) ≡ Some (join s x (first_of ys))
 first_into s x [] = refl
-first_into Bid x (y ∷ ys) = cond_both (ltb y x) (x ∷ y ∷ ys) (cond (eqb x y) (y ∷ ys) (y ∷ into Bid x ys)) (λ z. first_of z ≡ Some (max x y))
+first_into Bid x (y ∷ ys) = cond_both (ltb y x) (x ∷ y ∷ ys) (cond (eqb x y) (y ∷ ys) (y ∷ into Bid x ys)) (λ z. first_of z ≡ Some (better_of Bid x y))
     (λ e. ap Some (grind (arith, nat_tests)))
-    (λ e. cond_both (eqb x y) (y ∷ ys) (y ∷ into Bid x ys) (λ z. first_of z ≡ Some (max x y)) (λ _. ap Some (grind (arith, nat_tests))) (λ _. ap Some (grind (arith, nat_tests))))
-first_into Offer x (y ∷ ys) = cond_both (ltb x y) (x ∷ y ∷ ys) (cond (eqb x y) (y ∷ ys) (y ∷ into Offer x ys)) (λ z. first_of z ≡ Some (min x y))
+    (λ e. cond_both (eqb x y) (y ∷ ys) (y ∷ into Bid x ys) (λ z. first_of z ≡ Some (better_of Bid x y)) (λ _. ap Some (grind (arith, nat_tests))) (λ _. ap Some (grind (arith, nat_tests))))
+first_into Offer x (y ∷ ys) = cond_both (ltb x y) (x ∷ y ∷ ys) (cond (eqb x y) (y ∷ ys) (y ∷ into Offer x ys)) (λ z. first_of z ≡ Some (better_of Offer x y))
     (λ e. ap Some (grind (arith, nat_tests)))
-    (λ e. cond_both (eqb x y) (y ∷ ys) (y ∷ into Offer x ys) (λ z. first_of z ≡ Some (min x y)) (λ _. ap Some (grind (arith, nat_tests))) (λ _. ap Some (grind (arith, nat_tests))))
+    (λ e. cond_both (eqb x y) (y ∷ ys) (y ∷ into Offer x ys) (λ z. first_of z ≡ Some (better_of Offer x y)) (λ _. ap Some (grind (arith, nat_tests))) (λ _. ap Some (grind (arith, nat_tests))))
 
 of_three : (s : Side) (z x : ℕ) (y : Option ℕ) → join s (better_of s z x) y ≡ better_of s z (join s x y)
 of_three s z x None = refl
-of_three Bid z x (Some y) = omega arith
-of_three Offer z x (Some y) = omega arith
+of_three Bid z x (Some y) = grind (arith, nat_tests)
+of_three Offer z x (Some y) = grind (arith, nat_tests)
 
 best_joins : (s : Side) (found : ℕ) (xs : List ℕ) → fold (better_of s) found xs ≡ join s found (first_of (best_first s xs))
 best_joins s found [] = refl

@@ -20,7 +20,7 @@ use crate::span::Span;
 use policy::Policy;
 use rules::calls::OpeningAnswer;
 use rules::order::{Kind, Level, Side};
-use rules::tape::Terms;
+use rules::tape::{TapeLine, Terms};
 use table::table::{Change, Leaving, Prices, Table};
 use table::tape::Tape;
 
@@ -32,6 +32,13 @@ fn lesser(table: &Table, kind: Kind) -> u32
     bids.min(lots_at(table, Level { side: Side::Offer, kind }))
 }
 
+// Whether a line says that lots are bought.
+fn is_bought(line: TapeLine) -> bool
+    ensures { result ≡ is Bid line.side }
+{
+    line.side == Side::Bid
+}
+
 // The lots bought by the lines of a tape.
 fn bought(tape: &Tape) -> u32
     requires { lined (λ n s. is Bid s) (tape_lines tape.now) < 2 ^ 32 }
@@ -39,7 +46,7 @@ fn bought(tape: &Tape) -> u32
 {
     tape.lines()
         .iter()
-        .filter(|line| line.side == Side::Bid)
+        .filter(|line| is_bought(**line))
         .map(|line| line.lots)
         .sum()
 }
@@ -106,15 +113,16 @@ impl Floor {
         self.cross(policy, price, Kind::Limit(price));
     }
 
-    // Opens a book of the volume: with a price its orders trade, without one its On-Open orders are withdrawn.
+    // Opens a book of the volume, on a new tape: with a price its orders trade, without one its On-Open orders are
+    // withdrawn.
     fn open_at<P: Policy>(&mut self, policy: &P, lots: u32, price: Option<u32>) -> OpeningAnswer
-        requires empty { tape_lines self.old.tape ≡ [] }
         requires volume { lots ≡ volume_of (open_orders self.old.table) }
         requires price { price ≡ price_at lots (open_orders self.old.table) }
         ensures orders { open_orders self.new.table ≡ (opened_at (P.Policy.rule policy.now) (open_orders self.old.table) lots price).orders }
         ensures written { tape_lines self.new.tape ≡ (opened_at (P.Policy.rule policy.now) (open_orders self.old.table) lots price).tape }
         ensures answer { result ≡ answer_of (opened_at (P.Policy.rule policy.now) (open_orders self.old.table) lots price) }
     {
+        self.tape.clear();
         match price {
             Some(p) => {
                 self.trade_opening(policy, lots, p);
@@ -143,7 +151,6 @@ impl Floor {
         ensures written { tape_lines self.new.tape ≡ (opened (P.Policy.rule policy.now) (open_orders self.old.table)).tape }
         ensures answer { result ≡ answer_of (opened (P.Policy.rule policy.now) (open_orders self.old.table)) }
     {
-        self.tape.clear();
         let lots = volume(&self.table);
         let found = price(&self.table, lots);
         self.open_at(policy, lots, found)

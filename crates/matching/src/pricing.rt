@@ -11,7 +11,8 @@ use rules::limits::{HIGHEST_PRICE, LOWEST_PRICE};
 use rules::order::Side;
 use table::table::{Prices, Table};
 
-// The highest of a side's prices that pass; of none, the end of the range.
+// The highest of a side's prices that pass; of none, the end of the range. It and `lowest` stay two functions: one for
+// both would take the end and the step too, and its clause would say a fold in place of the rule's word.
 fn highest<F: Fn(u32) -> bool>(table: &Table, side: Side, passes: F) -> u32
     requires { F.IsAlwaysCallable passes }
     ensures { (test : ℕ → Bool) → Tells (F.post passes) test → result ≡ highest (filter test (prices side (open_orders table.now))) }

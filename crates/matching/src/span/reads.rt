@@ -1,13 +1,20 @@
 // What is asked of some prices of one side.
 ghost use Rattle.std.specs.Prelude.{◌≡◌};
 ghost use Rattle.table.specs.Tables.{open_orders};
-ghost use Rattle.matching.specs.Best.{first_of, next_of};
+ghost use Rattle.matching.specs.Best.{first_of, next_of, better_of};
 ghost use Rattle.matching.specs.Spans.{spans, ranked_in, facing};
 
 use super::Span;
 use rules::incoming::Incoming;
 use rules::order::Side;
 use table::table::{Prices, Table};
+
+// The better of two prices.
+fn better(side: Side, y: u32, x: u32) -> u32
+    ensures { result ≡ better_of side y x }
+{
+    if side.better_than(y, x) { x } else { y }
+}
 
 impl Span {
     // The prices of the other side that an entry accepts.
@@ -16,10 +23,7 @@ impl Span {
     {
         Span {
             side: e.side.other(),
-            prices: match e.limit {
-                None => Prices::Any,
-                Some(q) => Prices::AsGoodAs(q),
-            },
+            prices: e.limit.map_or(Prices::Any, Prices::AsGoodAs),
         }
     }
 
@@ -34,15 +38,12 @@ impl Span {
     fn best(self, table: &Table) -> Option<u32>
         ensures { result ≡ first_of (ranked_in self (open_orders table.now)) }
     {
-        let prices = table
+        table
             .orders()
             .iter()
             .filter_map(|o| o.limit(self.side))
-            .filter(|x| self.has(*x));
-        match self.side {
-            Side::Bid => prices.max(),
-            Side::Offer => prices.min(),
-        }
+            .filter(|x| self.has(*x))
+            .reduce(|y, x| better(self.side, y, x))
     }
 
     // The price of the next level that the lots left trade with.

@@ -1,4 +1,4 @@
-use Rattle.std.proofs.Common.{◌≡◌, ◌<◌, ◌^◌, sum_by, filter, refl, sym, ◌∙◌, arith, rules, tests}
+use Rattle.std.proofs.Common.{◌<◌, ◌^◌, sum_by, filter, refl, sym, ◌∙◌, arith, rules, tests}
 use Rattle.std.proofs.lemmas.Iterator.{YieldsList-from_slice, YieldsList-from_map}
 use Rattle.std.proofs.lemmas.Iterator.Consumers.{YieldsList-at, YieldsList-from_filter, sum_by_from_yields_List, fits_by_from_yields_list}
 use Rattle.rules.specs.declared.order.Order.{Order}

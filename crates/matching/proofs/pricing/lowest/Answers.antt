@@ -2,7 +2,7 @@ use Rattle.std.proofs.Common.{min, filter, ap, ◌∙◌, rules, tests}
 use Rattle.std.proofs.lemmas.Iterator.{YieldsList-from_slice}
 use Rattle.std.proofs.lemmas.Iterator.Consumers.{YieldsList-at, YieldsList-from_filter, YieldsList-from_filter_map, fold_from_yields_List}
 use Rattle.rules.specs.Limits.{highest_price}
-use Rattle.rules.specs.Orders.{prices, limit_of}
+use Rattle.rules.specs.Orders.{limit_of}
 use Rattle.rules.specs.Price.{lowest}
 use Rattle.table.specs.Tables.{open_orders}
 use Rattle.matching.proofs.Chains.{prices_are, lowest_is}

@@ -1,11 +1,9 @@
-use Rattle.std.proofs.Common.{◌≡◌, ℕ, length, ap, ◌∙◌, arith}
-use Rattle.policy.specs.Fair.{Rule}
+use Rattle.std.proofs.Common.{◌≡◌, length, ap, arith, rules}
 use Rattle.rules.specs.declared.order.Side.TheVariants.{Bid, Offer}
-use Rattle.rules.specs.declared.order.Kind.{Kind}
 use Rattle.rules.specs.declared.tape.Terms.TheVariants.{Opening}
 use Rattle.rules.specs.Orders.{level}
-use Rattle.rules.specs.Trades.{Step, fill}
-use Rattle.rules.specs.Opening.{lesser, cross}
+use Rattle.rules.specs.Trades.{Step}
+use Rattle.rules.specs.Opening.{cross}
 use Rattle.table.specs.Tables.{open_orders}
 use Rattle.table.proofs.Fit.{table_book}
 use Rattle.matching.specs.Steps.{step_of}
@@ -37,18 +35,10 @@ trade_level-requires-2 g c =
       level_after rule (Opening c.args.price) Bid Offer v k m,
     )
 
--- Both sides trade as many lots as the lesser holds.
-both : (rule : Rule) (p v : ℕ) (k : Kind) (m n z : Step) → v ≡ lesser k m.orders → n ≡ fill rule (Opening p) Bid v k m → z ≡ fill rule (Opening p) Offer v k n → z ≡ cross rule p k m
-both rule p v k m n z is e f = f ∙ (ap (fill rule (Opening p) Offer v k) e ∙ ap (λ (w : ℕ). fill rule (Opening p) Offer w k (fill rule (Opening p) Bid w k m)) is)
-
-pub returns : goal.returns
-returns g c =
+pub returns-clause-lines : goal.returns-clause-lines
+returns-clause-lines g c =
     let m = step_of c.args.self.now in
     let rule = g.P.Policy.rule c.args.policy.now in
-    let fair = g.met.P.Policy.fair c.args.policy.now in
     let k = c.args.kind in
-    let exact = both rule c.args.price c.lesser-lots.result k m (step_of c.trade_level.new.self) (step_of c.trade_level-2.new.self) c.lesser-lots.ensures c.trade_level.ensures.exact c.trade_level-2.ensures.exact in
-    record {
-      exact = exact;
-      lines = omega (arith, ap (λ (z : Step). length z.tape) exact, cross_lines rule fair c.args.price k m (table_book c.args.self.now.table));
-    }
+    let exact : step_of c.trade_level-2.new.self ≡ cross rule c.args.price k m = search rules in
+    omega (arith, ap (λ (z : Step). length z.tape) exact, cross_lines rule (g.met.P.Policy.fair c.args.policy.now) c.args.price k m (table_book c.args.self.now.table))

@@ -52,17 +52,14 @@ loop-x-preserved g c =
     let there = subst (λ (k : Step). Walked rule c.args.terms s t c.args.lots m (left - min left (held (at s (Limit x)) n.orders)) k) (sym c.meet_level-left.ensures.exact) turn in
     subst (λ (r : ℕ). Walked rule c.args.terms s t c.args.lots m (left - r) (step_of c.meet_level-left.new.self)) (sym c.meet_level-left.ensures.traded) there
 
-pub returns : goal.returns
-returns g c =
-    let n = step_of c.loop-x.self in
+pub returns-clause-exact : goal.returns-clause-exact
+returns-clause-exact g c =
     let s = c.args.span.side in
     let t : ℕ → Bool = spans c.args.span in
-    let rule = g.P.Policy.rule c.args.policy.now in
-    let fair = g.met.P.Policy.fair c.args.policy.now in
-    let m = step_of c.args.self.now in
-    let over = sym c.next_price.ensures ∙ c.in_default.is in
-    record {
-      exact = walked_exact rule fair c.args.terms s t c.args.lots m c.loop-x.left n (table_book c.loop-x.self.table) over c.loop-x.invariant;
-      left = walked_left rule fair c.args.terms s t c.args.lots m c.loop-x.left n (table_book c.loop-x.self.table) over c.loop-x.invariant;
-      lines = c.loop-x.invariant.lines;
-    }
+    walked_exact (g.P.Policy.rule c.args.policy.now) (g.met.P.Policy.fair c.args.policy.now) c.args.terms s t c.args.lots (step_of c.args.self.now) c.loop-x.left (step_of c.loop-x.self) (table_book c.loop-x.self.table) (sym c.next_price.ensures ∙ c.in_default.is) c.loop-x.invariant
+
+pub returns-clause-left : goal.returns-clause-left
+returns-clause-left g c =
+    let s = c.args.span.side in
+    let t : ℕ → Bool = spans c.args.span in
+    walked_left (g.P.Policy.rule c.args.policy.now) (g.met.P.Policy.fair c.args.policy.now) c.args.terms s t c.args.lots (step_of c.args.self.now) c.loop-x.left (step_of c.loop-x.self) (table_book c.loop-x.self.table) (sym c.next_price.ensures ∙ c.in_default.is) c.loop-x.invariant

@@ -1,4 +1,4 @@
-// What a book holds in either phase, apart from its methods: a file of specs/ names it.
+// What a book holds in either phase beside its policies, apart from its methods: a file of specs/ names it.
 use rules::calls::Hours;
 use rules::ladder::Ladder;
 use table::lines::Lines;
@@ -8,10 +8,9 @@ use table::tape::Tape;
 mod calls;
 mod checks;
 mod closing;
-mod entries;
-mod opening;
 
-pub struct Held<O, S> {
+#[derive(Drop)]
+pub struct Held {
     pub(crate) ladder: Ladder,
     pub(crate) today: u16,
     pub(crate) last: u16,
@@ -20,6 +19,4 @@ pub struct Held<O, S> {
     pub(crate) table: Table,
     pub(crate) tape: Tape,
     pub(crate) lines: Lines,
-    pub(crate) opening: O,
-    pub(crate) session: S,
 }

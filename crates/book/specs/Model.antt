@@ -76,15 +76,14 @@ pub record SamePolicies {P Q O S : Type 0} (before : Book P O S) (after : Book Q
   pub opening : after.opening ≡ before.opening
   pub session : after.session ≡ before.session
 
--- What a call promises that takes a book from one phase to another. A book in its phase holds a ladder, days, the next
--- entry number, the tape, the lines and the open orders, and was made of an opening and a session policy; by the rules
--- of the book each call has one answer there and leaves one book. The call answers exactly that, refusals included; the
--- book after it holds exactly that, with nothing else changed, its orders in that order and its tape line for line; and
--- both policies are still those that it was made of.
+-- What a call promises of a book that is in one phase before it and in the next after it. By the rule book, with the
+-- rules of the book's two policies, a call has one answer, which may be a refusal, and leaves one ladder, today, last
+-- trading day, next entry number, tape, phase, hours, lines and list of open orders. The call answers exactly that, and
+-- all that the book holds after it is exactly what is left; and the book still has the two policies that it had.
 pub record Moves {P Q O S : Type 0} (opening : O → Rule) (session : S → Rule) (phase next : Phase) (before : Book P O S) (after : Book Q O S) (call : Call) (answer : Answer) : Type 0 where
   pub step : Gives (step_of (rules_of opening session before) (machine phase before.held) call) answer (machine next after.held)
   pub policies : SamePolicies before after
 
--- The same of a call that leaves the book in its phase.
+-- The same of a call that keeps the book in its phase: every call but an opening and a close.
 abbrev pub Calls : {P O S : Type 0} → (O → Rule) → (S → Rule) → Phase → Book P O S → Book P O S → Call → Answer → Type 0
 Calls opening session phase before after call answer = Moves opening session phase phase before after call answer

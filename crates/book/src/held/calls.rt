@@ -41,7 +41,8 @@ impl Held {
         }
     }
 
-    // Numbers an order and sets it behind the others.
+    // Numbers an order and sets it behind the others. What it requires its two callers' checks say; a type for a checked
+    // entry could not carry it, since room and number are the book's, and so it is said here and at `meet`.
     pub(crate) fn wait(
         &mut self,
         id: u8,

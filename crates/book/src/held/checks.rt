@@ -12,7 +12,7 @@ use rules::calls::{Condition, LimitEntry, MarketEntry, OnOpenEntry, Phase, TimeI
 use rules::limits::{LAST_NUMBER, MOST_IDS, MOST_ORDERS};
 use rules::refusal::Refusal;
 
-// Ok, unless a check fails.
+// Ok, unless a check fails: plainer at each check than `(!fails).then_some(()).ok_or(refusal)`.
 pub(crate) fn unless(fails: bool, refusal: Refusal) -> Result<(), Refusal>
     ensures { result ≡ (if fails then Err refusal else Ok tt) }
 {

@@ -1,4 +1,4 @@
-// What a book holds in either phase, apart from its methods: a file of specs/ names it.
+// What a book holds in either phase beside its policies, apart from its methods: a file of specs/ names it.
 use matching::Floor;
 use rules::calls::Hours;
 use rules::ladder::Ladder;
@@ -7,10 +7,9 @@ use table::lines::Lines;
 mod calls;
 mod checks;
 mod closing;
-mod entries;
-mod opening;
 
-pub struct Held<O, S> {
+#[derive(Drop)]
+pub struct Held {
     pub(crate) ladder: Ladder,
     pub(crate) today: u16,
     pub(crate) last: u16,
@@ -18,6 +17,4 @@ pub struct Held<O, S> {
     pub(crate) hours: Hours,
     pub(crate) floor: Floor,
     pub(crate) lines: Lines,
-    pub(crate) opening: O,
-    pub(crate) session: S,
 }

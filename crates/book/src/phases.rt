@@ -13,7 +13,9 @@ mod waiting;
 // A book cannot be let go in silence: an opening, a close or `end` uses it up.
 pub struct Book<P, O, S> {
     stage: P,
-    held: Held<O, S>,
+    opening: O,
+    session: S,
+    held: Held,
 }
 
 // A book before its opening, and one in session.

@@ -10,8 +10,8 @@ use rules::order::Side;
 
 // The policies come back as they went in.
 pub fn day(mut book: PreOpen<PriceTime, ProRata>) -> (PriceTime, ProRata)
-    ensures opening { result.0 ≡ book.held.opening }
-    ensures session { result.1 ≡ book.held.session }
+    ensures opening { result.0 ≡ book.opening }
+    ensures session { result.1 ≡ book.session }
 {
     let _ = book.on_open(OnOpenEntry {
         id: 1,

@@ -23,20 +23,20 @@ use Rattle.optbook.specs.declared.page.Page.{Page}
 -- A book before its opening that is asked a call answers as the machine's step does, and is left as the step leaves
 -- it. An opening, which would use the book up, is not asked.
 pub record Asked {O S : Type 0} (opening : O → Rule) (session : S → Rule) (before : Book waits.Waiting O S) (call : Call) (answer : Answer) (after : Book waits.Waiting O S) : Type 0 where
-  pub gives : (call ≢ OpenBook) → Gives (step (rules_of opening session before.held) (waiting before) call) answer (waiting after)
-  pub policies : SamePolicies before.held after.held
+  pub gives : (call ≢ OpenBook) → Gives (step (rules_of opening session before) (waiting before) call) answer (waiting after)
+  pub policies : SamePolicies before after
 
 -- A book in session likewise. A close, which would use it up, is not asked.
 pub record AskedOpen {O S : Type 0} (opening : O → Rule) (session : S → Rule) (before : Book trades.Trading O S) (call : Call) (answer : Answer) (after : Book trades.Trading O S) : Type 0 where
-  pub gives : (call ≢ CloseBook) → Gives (step (rules_of opening session before.held) (trading before) call) answer (trading after)
+  pub gives : (call ≢ CloseBook) → Gives (step (rules_of opening session before) (trading before) call) answer (trading after)
   pub unclosed : call ≡ CloseBook → (answer ≡ WrongPhase) × (trading after ≡ trading before)
-  pub policies : SamePolicies before.held after.held
+  pub policies : SamePolicies before after
 
 -- An opening uses the book up and gives the session book.
 pub record OpensUp {O S : Type 0} (opening : O → Rule) (session : S → Rule) (before : Book waits.Waiting O S) (call : Call) (answer : Answer) (after : Book trades.Trading O S) : Type 0 where
   pub called : call ≡ OpenBook
-  pub gives : Gives (step (rules_of opening session before.held) (waiting before) OpenBook) answer (trading after)
-  pub policies : SamePolicies before.held after.held
+  pub gives : Gives (step (rules_of opening session before) (waiting before) OpenBook) answer (trading after)
+  pub policies : SamePolicies before after
 
 -- Where there is no book, no call is offered.
 abbrev pub Sent : Desk → Call → Answer → Desk → Type 0
@@ -52,7 +52,7 @@ Sent (Trading before) call answer (Trading after) = AskedOpen chosen_rule chosen
 abbrev pub Made : Making → Desk → Type 0
 Made m Empty = ⊥
 Made m (Waiting book) =
-    (waiting book ≡ machine.made m.ladder m.today m.last m.first) × (book.held.opening ≡ m.opening) × (book.held.session ≡ m.session)
+    (waiting book ≡ machine.made m.ladder m.today m.last m.first) × (book.opening ≡ m.opening) × (book.session ≡ m.session)
 Made m (Trading book) = ⊥
 
 abbrev pub desk_orders : Desk → List Order

@@ -4,12 +4,12 @@ use Rattle.rules.specs.declared.calls.Phase.{Phase}
 use Rattle.rules.specs.declared.calls.Phase.TheVariants.{PreOpen, Open}
 use Rattle.rules.specs.Machine.{Rules, Machine}
 use Rattle.book.specs.declared.held.Held.{Held}
-use Rattle.book.specs.Model.{machine, rules_of}
+use Rattle.book.specs.Model.{machine}
 use Rattle.replay.specs.declared.any.AnyBook.{AnyBook}
 use Rattle.replay.specs.declared.any.AnyBook.TheVariants.{Waiting, Trading}
 
 module _ {O S : Type 0} where
-  abbrev pub held_by : AnyBook O S → Held O S
+  abbrev pub held_by : AnyBook O S → Held
   held_by (Waiting b) = b.held
   held_by (Trading b) = b.held
 
@@ -22,10 +22,12 @@ module _ {O S : Type 0} where
 
   -- The policies it was made of, and their rules.
   abbrev pub opening_of : AnyBook O S → O
-  opening_of b = (held_by b).opening
+  opening_of (Waiting b) = b.opening
+  opening_of (Trading b) = b.opening
 
   abbrev pub session_of : AnyBook O S → S
-  session_of b = (held_by b).session
+  session_of (Waiting b) = b.session
+  session_of (Trading b) = b.session
 
   abbrev pub rules_in : (O → Rule) → (S → Rule) → AnyBook O S → Rules
-  rules_in opening session b = rules_of opening session (held_by b)
+  rules_in opening session b = record { opening = opening (opening_of b); session = session (session_of b) }

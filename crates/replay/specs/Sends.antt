@@ -9,15 +9,15 @@ use Rattle.rules.specs.Machine.{Machine, made}
 use Rattle.rules.specs.Steps.{step}
 use Rattle.laws.specs.Runs.{run, after}
 use Rattle.laws.specs.Laws.{Lawful}
-use Rattle.book.specs.declared.held.Held.{Held}
+use Rattle.book.specs.declared.phases.Book.{Book}
 use Rattle.book.specs.Model.{machine, rules_of, Gives, SamePolicies}
 use Rattle.replay.specs.declared.any.AnyBook.{AnyBook}
 use Rattle.replay.specs.Books.{machine_of, opening_of, session_of, rules_in}
 
 -- A book asked a call in its phase answers as the machine's step does, and is left as the step leaves it; but for the
 -- one call that moves it on to the other phase, which is not asked.
-pub record Asked {O S : Type 0} (opening : O → Rule) (session : S → Rule) (phase : Phase) (moves : Call) (before : Held O S) (call : Call) (answer : Answer) (after : Held O S) : Type 0 where
-  pub gives : (call ≢ moves) → Gives (step (rules_of opening session before) (machine phase before) call) answer (machine phase after)
+pub record Asked {P O S : Type 0} (opening : O → Rule) (session : S → Rule) (phase : Phase) (moves : Call) (before : Book P O S) (call : Call) (answer : Answer) (after : Book P O S) : Type 0 where
+  pub gives : (call ≢ moves) → Gives (step (rules_of opening session before) (machine phase before.held) call) answer (machine phase after.held)
   pub policies : SamePolicies before after
 
 -- A call does exactly the machine's step, and leaves the policies as they were.

@@ -1,22 +1,35 @@
 // The calls that a book takes in either phase, and what entries share.
-ghost use Rattle.std.specs.Prelude.{◌≡◌, ◌<◌, true, [], length};
+ghost use Rattle.std.specs.Prelude.{◌≡◌, ◌<◌, true, length};
 ghost use Rattle.rules.specs.declared.calls.Phase.{Phase as PhaseOf};
 ghost use Rattle.rules.specs.declared.calls.Answer.TheVariants.{Entered, Cancelled, Reduced, Dropped, Done};
 ghost use Rattle.rules.specs.Steps.{lifetime_in, wait, cancel, reduce, handed, dropped_lots, take_line_down, bring_line_up, name_successor};
-ghost use Rattle.rules.specs.Machine.{with_orders};
 ghost use Rattle.table.specs.Fits.{entry_fits};
 ghost use Rattle.table.specs.Tables.{open_orders};
-ghost use Rattle.book.specs.Model.{machine, Gives, SamePolicies, said};
+ghost use Rattle.book.specs.Model.{machine, Gives, said};
 
 use super::Held;
-use super::checks::{check_order, check_reduction, check_successor, open_lots};
+use super::checks::{outside, unless};
 use rules::calls::{EntryAnswer, TimeInForce};
 use rules::line::LineEvent;
 use rules::order::{Kind, Lifetime, Order, Side};
 use rules::refusal::Refusal;
-use table::table::{Change, Leaving};
+use table::table::{Change, Leaving, Table};
 
-impl<O, S> Held<O, S> {
+// The orders that do not outlive the line pass to its heir, or are withdrawn where there is none.
+fn hand_over(table: &mut Table, id: u8, heir: Option<u8>) -> (u32, u32)
+    ensures orders { open_orders table.new ≡ handed id heir (open_orders table.old) }
+    ensures lots { result ≡ dropped_lots id heir (open_orders table.old) }
+{
+    match heir {
+        Some(to) => {
+            table.change(Change::Pass { from: id, to });
+            (0, 0)
+        }
+        None => table.withdraw(Leaving::OfLine(id)),
+    }
+}
+
+impl Held {
     pub(crate) fn lifetime(&self, t: TimeInForce) -> Lifetime
         ensures { (phase : PhaseOf) → result ≡ lifetime_in (machine phase self.now) t }
     {
@@ -28,7 +41,8 @@ impl<O, S> Held<O, S> {
         }
     }
 
-    // Numbers an order and sets it behind the others.
+    // Numbers an order and sets it behind the others. What it requires its two callers' checks say; a type for a checked
+    // entry could not carry it, since room and number are the book's, and so it is said here and at `meet`.
     pub(crate) fn wait(
         &mut self,
         id: u8,
@@ -40,8 +54,7 @@ impl<O, S> Held<O, S> {
         requires room { length (open_orders self.old.floor.table) < 256 }
         requires number { self.old.next < 4294967295 }
         requires fit { entry_fits kind lots ≡ true }
-        ensures step { (phase : PhaseOf) → Gives (wait (machine phase self.old) id side kind lots t) (Entered result) (machine phase self.new) }
-        ensures policies { SamePolicies self.old self.new }
+        ensures { (phase : PhaseOf) → Gives (wait (machine phase self.old) id side kind lots t) (Entered result) (machine phase self.new) }
     {
         let number = self.next;
         let lifetime = self.lifetime(t);
@@ -63,56 +76,36 @@ impl<O, S> Held<O, S> {
     }
 
     pub(crate) fn cancel(&mut self, id: u8, number: u32) -> Result<u32, Refusal>
-        ensures step { (phase : PhaseOf) → Gives (cancel (machine phase self.old) id number) (said Cancelled result) (machine phase self.new) }
-        ensures policies { SamePolicies self.old self.new }
+        ensures { (phase : PhaseOf) → Gives (cancel (machine phase self.old) id number) (said Cancelled result) (machine phase self.new) }
     {
-        self.check_id(id)?;
-        let order = self.floor.table.find(number);
-        check_order(id, order)?;
+        let lots = self.held_lots(id, number)?;
         self.floor.table.remove(number);
-        Ok(open_lots(order))
+        Ok(lots)
     }
 
     pub(crate) fn reduce(&mut self, id: u8, number: u32, lots: u32) -> Result<u32, Refusal>
-        ensures step { (phase : PhaseOf) → Gives (reduce (machine phase self.old) id number lots) (said Reduced result) (machine phase self.new) }
-        ensures policies { SamePolicies self.old self.new }
+        ensures { (phase : PhaseOf) → Gives (reduce (machine phase self.old) id number lots) (said Reduced result) (machine phase self.new) }
     {
-        self.check_id(id)?;
-        let order = self.floor.table.find(number);
-        check_reduction(id, order, lots)?;
+        let open = self.held_lots(id, number)?;
+        unless(
+            outside(1, open.saturating_sub(1), lots),
+            Refusal::ReductionOutOfRange,
+        )?;
         self.floor.table.reduce(number, lots);
-        Ok(open_lots(order) - lots)
-    }
-
-    // The orders that do not outlive the line pass to its heir, or are withdrawn where there is none.
-    fn hand_over(&mut self, id: u8, heir: Option<u8>) -> (u32, u32)
-        ensures orders { open_orders self.new.floor.table ≡ handed id heir (open_orders self.old.floor.table) }
-        ensures lots { result ≡ dropped_lots id heir (open_orders self.old.floor.table) }
-        ensures rest { (phase : PhaseOf) → with_orders (machine phase self.new) [] ≡ with_orders (machine phase self.old) [] }
-        ensures policies { SamePolicies self.old self.new }
-    {
-        match heir {
-            Some(to) => {
-                self.floor.table.change(Change::Pass { from: id, to });
-                (0, 0)
-            }
-            None => self.floor.table.withdraw(Leaving::OfLine(id)),
-        }
+        Ok(open - lots)
     }
 
     pub(crate) fn line_down(&mut self, id: u8) -> Result<(u32, u32), Refusal>
-        ensures step { (phase : PhaseOf) → Gives (take_line_down (machine phase self.old) id) (said Dropped result) (machine phase self.new) }
-        ensures policies { SamePolicies self.old self.new }
+        ensures { (phase : PhaseOf) → Gives (take_line_down (machine phase self.old) id) (said Dropped result) (machine phase self.new) }
     {
         self.check_id(id)?;
         let heir = self.lines.heir(id);
         self.lines.apply(id, LineEvent::GoesDown);
-        Ok(self.hand_over(id, heir))
+        Ok(hand_over(&mut self.floor.table, id, heir))
     }
 
     pub(crate) fn line_up(&mut self, id: u8) -> Result<(), Refusal>
-        ensures step { (phase : PhaseOf) → Gives (bring_line_up (machine phase self.old) id) (said (λ _. Done) result) (machine phase self.new) }
-        ensures policies { SamePolicies self.old self.new }
+        ensures { (phase : PhaseOf) → Gives (bring_line_up (machine phase self.old) id) (said (λ _. Done) result) (machine phase self.new) }
     {
         self.check_line_up(id)?;
         self.lines.apply(id, LineEvent::ComesUp);
@@ -120,31 +113,10 @@ impl<O, S> Held<O, S> {
     }
 
     pub(crate) fn successor(&mut self, id: u8, successor: u8) -> Result<(), Refusal>
-        ensures step { (phase : PhaseOf) → Gives (name_successor (machine phase self.old) id successor) (said (λ _. Done) result) (machine phase self.new) }
-        ensures policies { SamePolicies self.old self.new }
+        ensures { (phase : PhaseOf) → Gives (name_successor (machine phase self.old) id successor) (said (λ _. Done) result) (machine phase self.new) }
     {
-        check_successor(id, successor)?;
+        self.check_successor(id, successor)?;
         self.lines.apply(id, LineEvent::Names(successor));
         Ok(())
-    }
-}
-
-impl<O, S> Held<O, S> {
-    pub(crate) fn end(self) -> (O, S)
-        ensures opening { result.0 ≡ self.opening }
-        ensures session { result.1 ≡ self.session }
-    {
-        let Held {
-            ladder: _,
-            today: _,
-            last: _,
-            next: _,
-            hours: _,
-            floor: _,
-            lines: _,
-            opening,
-            session,
-        } = self;
-        (opening, session)
     }
 }

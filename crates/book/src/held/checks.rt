@@ -1,29 +1,28 @@
 // Whether a call is taken: its checks, in the order of the rule book.
 ghost use Rattle.std.specs.Prelude.{◌≡◌, [], if◌then◌else◌, Ok, Err};
 ghost use Rattle.rules.specs.Refusals.{first};
-ghost use Rattle.rules.specs.Checks.{outside, minimum_outside, is_plain, limit_allowed, on_open_allowed, market_allowed, day_outside, open_lots, id_checks, room_checks, limit_terms, on_open_terms, market_terms, order_terms, reduction_terms, line_up_checks, successor_checks, trial_checks};
-ghost use Rattle.rules.specs.Machine.{Machine};
+ghost use Rattle.rules.specs.Checks.{outside, minimum_outside, is_plain, limit_allowed, on_open_allowed, market_allowed, day_outside, order_of, open_lots, id_checks, room_checks, limit_checks, on_open_checks, market_checks, cancel_checks, line_up_checks, successor_checks, trial_checks};
 ghost use Rattle.rules.specs.declared.calls.Phase.TheVariants.{PreOpen, Open};
-ghost use Rattle.book.specs.Model.{machine, verdict};
+ghost use Rattle.table.specs.Tables.{open_orders};
+ghost use Rattle.book.specs.Model.{machine, verdict, verdict_on};
 
 use super::Held;
 use policy::MOST_LOTS;
 use rules::calls::{Condition, LimitEntry, MarketEntry, OnOpenEntry, Phase, TimeInForce, Trial};
 use rules::limits::{LAST_NUMBER, MOST_IDS, MOST_ORDERS};
-use rules::order::Order;
 use rules::refusal::Refusal;
 
-// Ok, unless a check fails.
-fn unless(fails: bool, refusal: Refusal) -> Result<(), Refusal>
+// Ok, unless a check fails: plainer at each check than `(!fails).then_some(()).ok_or(refusal)`.
+pub(crate) fn unless(fails: bool, refusal: Refusal) -> Result<(), Refusal>
     ensures { result ≡ (if fails then Err refusal else Ok tt) }
 {
     if fails { Err(refusal) } else { Ok(()) }
 }
 
-fn outside(low: u32, high: u32, n: u32) -> bool
+pub(crate) fn outside(low: u32, high: u32, n: u32) -> bool
     ensures { result ≡ outside low high n }
 {
-    n < low || n > high
+    !(low..=high).contains(&n)
 }
 
 // Whether an MV minimum is not from 1 to the volume.
@@ -39,10 +38,7 @@ fn minimum_outside(condition: Condition, lots: u32) -> bool
 fn is_plain(t: TimeInForce) -> bool
     ensures { result ≡ is_plain t }
 {
-    match t {
-        TimeInForce::Plain => true,
-        _ => false,
-    }
+    matches!(t, TimeInForce::Plain)
 }
 
 fn limit_allowed(phase: Phase, t: TimeInForce, condition: Condition) -> bool
@@ -68,18 +64,15 @@ fn market_allowed(t: TimeInForce, condition: Condition) -> bool
 fn on_open_allowed(t: TimeInForce) -> bool
     ensures { result ≡ on_open_allowed t }
 {
-    match t {
-        TimeInForce::Gis => false,
-        _ => true,
-    }
+    !matches!(t, TimeInForce::Gis)
 }
 
-impl<O, S> Held<O, S> {
+impl Held {
     fn day_outside(&self, t: TimeInForce) -> bool
         ensures { result ≡ day_outside (machine PreOpen self.now) t }
     {
         match t {
-            TimeInForce::Gtc(Some(day)) => outside(self.today as u32, self.last as u32, day as u32),
+            TimeInForce::Gtc(Some(day)) => outside(self.today.into(), self.last.into(), day.into()),
             _ => false,
         }
     }
@@ -88,7 +81,7 @@ impl<O, S> Held<O, S> {
     pub(crate) fn check_id(&self, id: u8) -> Result<(), Refusal>
         ensures { result ≡ verdict (first (id_checks (machine PreOpen self.now) id [])) }
     {
-        unless(outside(1, MOST_IDS as u32, id as u32), Refusal::NoSuchId)?;
+        unless(outside(1, MOST_IDS.into(), id.into()), Refusal::NoSuchId)?;
         unless(self.lines.of(id).is_down(), Refusal::LineIsDown)
     }
 
@@ -100,10 +93,11 @@ impl<O, S> Held<O, S> {
         unless(self.next > LAST_NUMBER, Refusal::NumbersUsedUp)
     }
 
-    // 3 to 9 of a limit entry.
+    // 1 to 9 of a limit entry.
     pub(crate) fn check_limit(&self, phase: Phase, e: LimitEntry) -> Result<(), Refusal>
-        ensures { result ≡ verdict (first (limit_terms (machine phase self.now) e)) }
+        ensures { result ≡ verdict (first (limit_checks (machine phase self.now) e)) }
     {
+        self.check_id(e.id)?;
         unless(!self.ladder.takes(e.price), Refusal::PriceNotTaken)?;
         unless(outside(1, MOST_LOTS, e.lots), Refusal::VolumeOutOfRange)?;
         unless(
@@ -118,20 +112,22 @@ impl<O, S> Held<O, S> {
         self.check_room()
     }
 
-    // 4 to 9 of an On-Open entry.
+    // 1, 2 and 4 to 9 of an On-Open entry.
     pub(crate) fn check_on_open(&self, e: OnOpenEntry) -> Result<(), Refusal>
-        ensures { result ≡ verdict (first (on_open_terms (machine PreOpen self.now) e)) }
+        ensures { result ≡ verdict (first (on_open_checks (machine PreOpen self.now) e)) }
     {
+        self.check_id(e.id)?;
         unless(outside(1, MOST_LOTS, e.lots), Refusal::VolumeOutOfRange)?;
         unless(!on_open_allowed(e.lifetime), Refusal::ModifierNotAllowed)?;
         unless(self.day_outside(e.lifetime), Refusal::DayOutOfRange)?;
         self.check_room()
     }
 
-    // 4 to 9 of a market entry: it never rests, so a full book takes it.
+    // 1, 2 and 4 to 9 of a market entry: it never rests, so a full book takes it.
     pub(crate) fn check_market(&self, e: MarketEntry) -> Result<(), Refusal>
-        ensures { result ≡ verdict (first (market_terms (machine Open self.now) e)) }
+        ensures { result ≡ verdict (first (market_checks (machine Open self.now) e)) }
     {
+        self.check_id(e.id)?;
         unless(outside(1, MOST_LOTS, e.lots), Refusal::VolumeOutOfRange)?;
         unless(
             minimum_outside(e.condition, e.lots),
@@ -155,45 +151,28 @@ impl<O, S> Held<O, S> {
     pub(crate) fn check_line_up(&self, id: u8) -> Result<(), Refusal>
         ensures { result ≡ verdict (first (line_up_checks (machine PreOpen self.now) id)) }
     {
-        unless(outside(1, MOST_IDS as u32, id as u32), Refusal::NoSuchId)?;
+        unless(outside(1, MOST_IDS.into(), id.into()), Refusal::NoSuchId)?;
         unless(!self.lines.of(id).is_down(), Refusal::LineIsUp)
     }
-}
 
-// 10 and 11: there is such an order, and the ID holds it.
-pub(crate) fn check_order(id: u8, order: Option<Order>) -> Result<(), Refusal>
-    ensures { result ≡ verdict (first (order_terms id order [])) }
-{
-    match order {
-        None => Err(Refusal::NoSuchOrder),
-        Some(o) => unless(o.id != id, Refusal::HeldByAnother),
+    // The ID is one of the book's, and may name the other.
+    pub(crate) fn check_successor(&self, id: u8, successor: u8) -> Result<(), Refusal>
+        ensures { result ≡ verdict (first (successor_checks (machine PreOpen self.now) id successor)) }
+    {
+        unless(outside(1, MOST_IDS.into(), id.into()), Refusal::NoSuchId)?;
+        unless(
+            outside(1, MOST_IDS.into(), successor.into()) || successor == id,
+            Refusal::SuccessorNotAllowed,
+        )
     }
-}
 
-// 10 to 12: there is such an order, the ID holds it, and it has more lots than are taken off.
-pub(crate) fn check_reduction(id: u8, order: Option<Order>, lots: u32) -> Result<(), Refusal>
-    ensures { result ≡ verdict (first (reduction_terms id order lots)) }
-{
-    check_order(id, order)?;
-    let most = open_lots(order).saturating_sub(1);
-    unless(outside(1, most, lots), Refusal::ReductionOutOfRange)
-}
-
-pub(crate) fn open_lots(order: Option<Order>) -> u32
-    ensures { result ≡ open_lots order }
-{
-    match order {
-        None => 0,
-        Some(o) => o.lots,
+    // 1, 2, 10 and 11: there is such an order, and the ID holds it. Answers its lots.
+    pub(crate) fn held_lots(&self, id: u8, number: u32) -> Result<u32, Refusal>
+        ensures { result ≡ verdict_on (first (cancel_checks (machine PreOpen self.now) id number)) (open_lots (order_of number (open_orders self.now.floor.table))) }
+    {
+        self.check_id(id)?;
+        let order = self.floor.table.find(number).ok_or(Refusal::NoSuchOrder)?;
+        unless(order.id != id, Refusal::HeldByAnother)?;
+        Ok(order.lots)
     }
-}
-
-pub(crate) fn check_successor(id: u8, successor: u8) -> Result<(), Refusal>
-    ensures { (m : Machine) → result ≡ verdict (first (successor_checks m id successor)) }
-{
-    unless(outside(1, MOST_IDS as u32, id as u32), Refusal::NoSuchId)?;
-    unless(
-        outside(1, MOST_IDS as u32, successor as u32) || successor == id,
-        Refusal::SuccessorNotAllowed,
-    )
 }

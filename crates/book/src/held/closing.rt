@@ -2,16 +2,15 @@
 ghost use Rattle.rules.specs.declared.calls.Answer.TheVariants.{Closed};
 ghost use Rattle.rules.specs.declared.calls.Phase.TheVariants.{PreOpen, Open};
 ghost use Rattle.rules.specs.Steps.{close_book};
-ghost use Rattle.book.specs.Model.{machine, Gives, SamePolicies};
+ghost use Rattle.book.specs.Model.{machine, Gives};
 
 use super::Held;
 use table::table::Leaving;
 
-impl<O, S> Held<O, S> {
+impl Held {
     // Withdraws the orders that lapse, and answers their lots, of bids and of offers.
     pub(crate) fn close(&mut self) -> (u32, u32)
-        ensures step { Gives (close_book (machine Open self.old)) (Closed result) (machine PreOpen self.new) }
-        ensures policies { SamePolicies self.old self.new }
+        ensures { Gives (close_book (machine Open self.old)) (Closed result) (machine PreOpen self.new) }
     {
         let hours = self.hours;
         let today = self.today;

@@ -39,10 +39,15 @@ impl<P: Stage, O: Policy, S: Policy> Book<P, O, S> {
     pub fn end(self) -> (O, S)
     where
         P: Drop,
-        ensures opening { result.0 ≡ self.held.opening }
-        ensures session { result.1 ≡ self.held.session }
+        ensures opening { result.0 ≡ self.opening }
+        ensures session { result.1 ≡ self.session }
     {
-        let Book { stage: _, held } = self;
-        held.end()
+        let Book {
+            stage: _,
+            opening,
+            session,
+            held: _,
+        } = self;
+        (opening, session)
     }
 }

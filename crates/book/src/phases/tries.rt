@@ -1,9 +1,8 @@
 // The trial.
-ghost use Rattle.std.specs.Prelude.{◌≡◌};
 ghost use Rattle.rules.specs.declared.calls.Answer.TheVariants.{Tried};
 ghost use Rattle.rules.specs.declared.calls.Call.TheVariants.{Try};
-ghost use Rattle.rules.specs.Steps.{step, tried_order};
-ghost use Rattle.book.specs.Model.{waiting, rules_of, Gives, SamePolicies, said};
+ghost use Rattle.rules.specs.declared.calls.Phase.TheVariants.{PreOpen};
+ghost use Rattle.book.specs.Model.{Calls, said};
 
 use super::Book;
 use crate::stage::Waiting;
@@ -16,8 +15,7 @@ use rules::refusal::Refusal;
 impl<O: Policy, S: Policy> Book<Waiting, O, S> {
     // How the book would open with one limit order more. The order is in the table only while the answer is found.
     pub fn trial(&mut self, t: Trial) -> Result<TrialAnswer, Refusal>
-        ensures step { Gives (step (rules_of O.Policy.rule S.Policy.rule self.old.held) (waiting self.old) (Try t)) (said Tried result) (waiting self.new) }
-        ensures policies { SamePolicies self.old.held self.new.held }
+        ensures { Calls O.Policy.rule S.Policy.rule PreOpen self.old self.new (Try t) (said Tried result) }
     {
         self.held.check_trial(t)?;
         let number = self.held.next;

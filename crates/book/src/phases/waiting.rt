@@ -3,8 +3,8 @@ ghost use Rattle.std.specs.Prelude.{◌≡◌};
 ghost use Rattle.rules.specs.declared.calls.Answer.TheVariants.{Entered};
 ghost use Rattle.rules.specs.declared.calls.Call.TheVariants.{EnterLimit, EnterOnOpen};
 ghost use Rattle.rules.specs.Machine.{made, nearest_day};
-ghost use Rattle.rules.specs.Steps.{step};
-ghost use Rattle.book.specs.Model.{waiting, rules_of, Gives, SamePolicies, said};
+ghost use Rattle.rules.specs.declared.calls.Phase.TheVariants.{PreOpen};
+ghost use Rattle.book.specs.Model.{waiting, Calls, said};
 
 use super::Book;
 use crate::held::Held;
@@ -24,7 +24,7 @@ use table::tape::Tape;
 fn nearest_day(day: u16) -> u16
     ensures { result ≡ nearest_day day }
 {
-    day.min(LAST_DAY).max(FIRST_DAY)
+    day.clamp(FIRST_DAY, LAST_DAY)
 }
 
 impl<O: Policy, S: Policy> Book<Waiting, O, S> {
@@ -38,12 +38,14 @@ impl<O: Policy, S: Policy> Book<Waiting, O, S> {
         first_number: u32,
     ) -> Book<Waiting, O, S>
         ensures machine { waiting result ≡ made ladder today last first_number }
-        ensures opening { result.held.opening ≡ opening }
-        ensures session { result.held.session ≡ session }
+        ensures opening { result.opening ≡ opening }
+        ensures session { result.session ≡ session }
     {
         let today = nearest_day(today);
         Book {
             stage: Waiting,
+            opening,
+            session,
             held: Held {
                 ladder,
                 today,
@@ -55,17 +57,13 @@ impl<O: Policy, S: Policy> Book<Waiting, O, S> {
                     tape: Tape::new(),
                 },
                 lines: Lines::new(),
-                opening,
-                session,
             },
         }
     }
 
     pub fn limit(&mut self, e: LimitEntry) -> Result<EntryAnswer, Refusal>
-        ensures step { Gives (step (rules_of O.Policy.rule S.Policy.rule self.old.held) (waiting self.old) (EnterLimit e)) (said Entered result) (waiting self.new) }
-        ensures policies { SamePolicies self.old.held self.new.held }
+        ensures { Calls O.Policy.rule S.Policy.rule PreOpen self.old self.new (EnterLimit e) (said Entered result) }
     {
-        self.held.check_id(e.id)?;
         self.held.check_limit(Phase::PreOpen, e)?;
         Ok(
             self.held
@@ -74,10 +72,8 @@ impl<O: Policy, S: Policy> Book<Waiting, O, S> {
     }
 
     pub fn on_open(&mut self, e: OnOpenEntry) -> Result<EntryAnswer, Refusal>
-        ensures step { Gives (step (rules_of O.Policy.rule S.Policy.rule self.old.held) (waiting self.old) (EnterOnOpen e)) (said Entered result) (waiting self.new) }
-        ensures policies { SamePolicies self.old.held self.new.held }
+        ensures { Calls O.Policy.rule S.Policy.rule PreOpen self.old self.new (EnterOnOpen e) (said Entered result) }
     {
-        self.held.check_id(e.id)?;
         self.held.check_on_open(e)?;
         Ok(
             self.held

@@ -11,7 +11,7 @@ use rules::calls::{Answer, Call};
 
 // A call of a book before its opening, which it stays. An opening is not asked here; its arm only completes the match.
 fn ask_waiting<O: Policy, S: Policy>(book: &mut PreOpen<O, S>, call: Call) -> Answer
-    ensures { Asked O.Policy.rule S.Policy.rule PreOpen OpenBook book.old.held call result book.new.held }
+    ensures { Asked O.Policy.rule S.Policy.rule PreOpen OpenBook book.old call result book.new }
 {
     match call {
         Call::EnterLimit(entry) => entered(book.limit(entry)),
@@ -28,7 +28,7 @@ fn ask_waiting<O: Policy, S: Policy>(book: &mut PreOpen<O, S>, call: Call) -> An
 
 // A call of a book in session, which it stays. A close is not asked here; its arm only completes the match.
 fn ask_trading<O: Policy, S: Policy>(book: &mut Session<O, S>, call: Call) -> Answer
-    ensures { Asked O.Policy.rule S.Policy.rule Open CloseBook book.old.held call result book.new.held }
+    ensures { Asked O.Policy.rule S.Policy.rule Open CloseBook book.old call result book.new }
 {
     match call {
         Call::EnterLimit(entry) => entered(book.limit(entry)),

@@ -1,46 +1,19 @@
-use Rattle.std.proofs.Common.{[], None, refl, subst}
-use Rattle.std.proofs.lemmas.Result.{err_from_is_err_and}
-use Rattle.rules.specs.declared.order.Lifetime.{Lifetime}
-use Rattle.rules.specs.declared.calls.Phase.TheVariants.{Open}
+use Rattle.std.proofs.Common.{refl}
 use Rattle.rules.specs.declared.calls.Answer.TheVariants.{Entered}
-use Rattle.rules.specs.Checks.{id_checks, market_terms}
+use Rattle.rules.specs.Checks.{market_checks}
 use Rattle.rules.specs.Steps.{meet, market_incoming}
-use Rattle.book.specs.Model.{trading, rules_of, Gives}
-use Rattle.book.proofs.Verdicts.{refused_first, refused_then, taken_then}
+use Rattle.book.specs.Model.{trading, rules_of}
+use Rattle.book.proofs.Verdicts.{call_refused, call_taken}
 use Rattle.book.proofs.phases.trading.Book+Trading+O+S.market.Goals as goal
-
-pub returns-in_err-check_id : goal.returns-in_err-check_id
-returns-in_err-check_id g c =
-    let m = trading c.args.self.now in
-    let e = c.args.e in
-    let R = rules_of g.O.Policy.rule g.S.Policy.rule c.args.self.now.held in
-    let p = err_from_is_err_and c.from_residual.result c.from_residual.ensures.1 in
-    rw (p.1, p.2)
-    (record {
-      step = refused_first (id_checks m e.id []) (market_terms m e) m (meet R m (market_incoming m e)) c.in_err-check_id.field-0.0 c.in_err-check_id.ensures;
-      policies = record { opening = refl; session = refl };
-    })
 
 pub returns-in_err-check_market : goal.returns-in_err-check_market
 returns-in_err-check_market g c =
     let m = trading c.args.self.now in
-    let e = c.args.e in
-    let R = rules_of g.O.Policy.rule g.S.Policy.rule c.args.self.now.held in
-    let p = err_from_is_err_and c.from_residual-in_err-check_market.result c.from_residual-in_err-check_market.ensures.1 in
-    rw (p.1, p.2)
-    (record {
-      step = refused_then (id_checks m e.id []) (market_terms m e) m (meet R m (market_incoming m e)) c.in_err-check_market.field-0.0 c.in_ok-check_id.ensures c.in_err-check_market.ensures;
-      policies = record { opening = refl; session = refl };
-    })
+    let R = rules_of g.O.Policy.rule g.S.Policy.rule c.args.self.now in
+    call_refused Entered c.from_residual.result (market_checks m c.args.e) (meet R m (market_incoming m c.args.e)) refl c.in_err-check_market.ensures c.from_residual.ensures.1
 
 pub returns : goal.returns
 returns g c =
     let m = trading c.args.self.now in
-    let e = c.args.e in
-    let R = rules_of g.O.Policy.rule g.S.Policy.rule c.args.self.now.held in
-    let life = c.lifetime.ensures Open in
-    let met = subst (λ (l : Lifetime). Gives (meet R m (record { number = m.next; id = e.id; side = e.side; limit = None; lots = e.lots; lifetime = l; condition = e.condition })) (Entered c.meet.result) (trading (record { stage = c.args.self.now.stage; held = c.meet.new.self }))) life c.meet.ensures.step in
-    record {
-      step = taken_then (id_checks m e.id []) (market_terms m e) m (meet R m (market_incoming m e)) (Entered c.meet.result) _ c.in_ok-check_id.ensures c.in_ok-check_market.ensures met;
-      policies = c.meet.ensures.policies;
-    }
+    let R = rules_of g.O.Policy.rule g.S.Policy.rule c.args.self.now in
+    call_taken (market_checks m c.args.e) (meet R m (market_incoming m c.args.e)) refl c.in_ok-check_market.ensures c.meet.ensures.step c.meet.ensures.policies

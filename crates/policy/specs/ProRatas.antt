@@ -1,4 +1,4 @@
--- Pro rata is fair. Assumes nothing.
+-- Pro rata is fair. Assumes nothing. Here since an impl names it: a proof of an impl's law stands in specs/.
 use Rattle.std.specs.Prelude.{◌≡◌, ℕ, zero, suc, ◌+◌, ◌-◌, ◌*◌, ◌/◌, ◌%◌, ◌<◌, ◌≤◌, min, cond, ◌&&◌, List, [], ◌∷◌, map, nat_lt, refl}
 use Rattle.std.proofs.Common.{sym, ap, subst, ◌∙◌, ⊎_elim, mul-add, add-mul, mul-zero, zero-mul, one-mul, mul_comm, div-add-mod', mod-lt, mul-le-mul_right, le_of_mul-le-mul_right, lt_of_mul-lt-mul_right, arith}
 use Rattle.std.proofs.Math.Nat.{div-zero, mod-zero, sub-zero}

@@ -17,9 +17,6 @@ dealing t v left [] = []
 dealing t v left (x ∷ xs) =
     (whole t v x + extra left (v * x % t)) ∷ dealing t v (left - extra left (v * x % t)) xs
 
-pub one_is : (left m : ℕ) → cond (nat_lt 0 m && nat_lt 0 left) 1 0 ≡ extra left m
-one_is left m = grind (arith, nat_tests)
-
 extra_is : (r before m : ℕ) → cond (nat_lt 0 m && nat_lt before r) 1 0 ≡ extra (r - before) m
 extra_is r before m = grind (arith, nat_tests)
 

@@ -1,5 +1,5 @@
 -- What an answer tells its caller. Assumes nothing.
-use Rattle.std.proofs.Common.{◌≡◌, ℕ, min, true, List, length, Ok, Err, ◌∙◌, ⊎_elim, arith}
+use Rattle.std.proofs.Common.{◌≡◌, ℕ, min, true, List, length, Ok, Err, ◌∙◌, ⊎_elim}
 use Rattle.std.proofs.lemmas.Bool.{cases_Bool, cond-true, cond-false}
 use Rattle.policy.specs.Fair.{Rule, Fairly, total}
 use Rattle.policy.specs.Asked.{answered, Answered}
@@ -11,7 +11,7 @@ pub taken_answered : (rule : Rule) (q : List ℕ) (v : ℕ) (before after : List
 taken_answered rule q v before after u a =
     ⊎_elim
     (λ h. h)
-    (λ h. let is : Ok u ≡ Err NotAQueue = a.result ∙ cond-false _ _ _ h in let z : ◌≡◌ {A = ℕ} 0 1 = cc in absurd (let never : ⊥ = omega arith in never))
+    (λ h. let is : Ok u ≡ Err NotAQueue = a.result ∙ cond-false _ _ _ h in cc)
     (cases_Bool (answered q (length before)))
 
 pub taken_shares : (rule : Rule) (q : List ℕ) (v : ℕ) (before after : List ℕ) (u : Unit {0}) → Answered rule q v before after (Ok u) → after ≡ rule q v
@@ -21,6 +21,5 @@ taken_shares rule q v before after u a = a.shares ∙ cond-true _ _ _ (taken_ans
 pub taken_adds : (rule : Rule) → Fairly rule → (q : List ℕ) (v : ℕ) (before after : List ℕ) (u : Unit {0}) → Answered rule q v before after (Ok u) → total after ≡ min v (total q)
 taken_adds rule fair q v before after u a =
     let is = taken_shares rule q v before after u a in
-    let f = fair q v (answered_queue q (length before) (taken_answered rule q v before after u a)) in
-    let adds = f.adds in
+    let adds = (fair q v (answered_queue q (length before) (taken_answered rule q v before after u a))).adds in
     cc

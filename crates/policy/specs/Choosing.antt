@@ -1,4 +1,4 @@
--- A policy that is chosen when the program runs is fair. Assumes nothing.
+-- A policy that is chosen when the program runs is fair. Assumes nothing. Here since an impl names it: a proof of an impl's law stands in specs/.
 use Rattle.policy.specs.Fair.{Rule, Fairly}
 use Rattle.policy.specs.Chosen.{base_rule, layered_rule, Chosen, chosen_rule}
 use Rattle.policy.specs.declared.chosen.Base.{Base}

@@ -1,4 +1,4 @@
--- A favour over a fair rule is fair. Assumes nothing.
+-- A favour over a fair rule is fair. Assumes nothing. Here since an impl names it: a proof of an impl's law stands in specs/.
 use Rattle.std.specs.Prelude.{◌≡◌, ℕ, ◌-◌, ◌≤◌, min, List, [], ◌∷◌, nat_le, slice_index}
 use Rattle.std.proofs.Common.{arith}
 use Rattle.std.proofs.lemmas.Bool.{cond_both}

@@ -1,4 +1,4 @@
--- Price/time is fair. Assumes nothing.
+-- Price/time is fair. Assumes nothing. Here since an impl names it: a proof of an impl's law stands in specs/.
 use Rattle.std.specs.Prelude.{◌≡◌, ℕ, ◌-◌, min, List, [], ◌∷◌}
 use Rattle.std.proofs.Common.{arith}
 use Rattle.policy.specs.Fair.{total, Within, Fair}

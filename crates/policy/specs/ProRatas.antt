@@ -1,4 +1,4 @@
--- Pro rata is fair. Assumes nothing.
+-- Pro rata is fair. Assumes nothing. Here since an impl names it: a proof of an impl's law stands in specs/.
 use Rattle.std.specs.Prelude.{◌≡◌, ℕ, zero, suc, ◌+◌, ◌-◌, ◌*◌, ◌/◌, ◌%◌, ◌<◌, ◌≤◌, min, cond, ◌&&◌, List, [], ◌∷◌, map, nat_lt, refl}
 use Rattle.std.proofs.Common.{sym, ap, subst, ◌∙◌, ⊎_elim, mul-add, add-mul, mul-zero, zero-mul, one-mul, mul_comm, div-add-mod', mod-lt, mul-le-mul_right, le_of_mul-le-mul_right, lt_of_mul-lt-mul_right, arith}
 use Rattle.std.proofs.Math.Nat.{div-zero, mod-zero, sub-zero}
@@ -16,9 +16,6 @@ abbrev pub dealing : ℕ → ℕ → ℕ → List ℕ → List ℕ
 dealing t v left [] = []
 dealing t v left (x ∷ xs) =
     (whole t v x + extra left (v * x % t)) ∷ dealing t v (left - extra left (v * x % t)) xs
-
-pub one_is : (left m : ℕ) → cond (nat_lt 0 m && nat_lt 0 left) 1 0 ≡ extra left m
-one_is left m = grind (arith, nat_tests)
 
 extra_is : (r before m : ℕ) → cond (nat_lt 0 m && nat_lt before r) 1 0 ≡ extra (r - before) m
 extra_is r before m = grind (arith, nat_tests)

@@ -14,7 +14,7 @@ pub enum Base {
 impl Policy for Base {
     ghost rule = { base_rule };
 
-    ghost fair = { λ p queue v h. base_fair p queue v h };
+    ghost fair = { base_fair };
 
     fn share(&self, queue: &[u32], lots: u32, shares: &mut [u32]) -> Result<(), Refusal> {
         match self {
@@ -34,7 +34,7 @@ pub enum Layered<P> {
 impl<P: Policy> Policy for Layered<P> {
     ghost rule = { layered_rule P.Policy.rule };
 
-    ghost fair = { λ p queue v h. layered_fair P.Policy.rule P.Policy.fair p queue v h };
+    ghost fair = { layered_fair P.Policy.rule P.Policy.fair };
 
     fn share(&self, queue: &[u32], lots: u32, shares: &mut [u32]) -> Result<(), Refusal> {
         match self {

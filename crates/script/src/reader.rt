@@ -2,7 +2,7 @@
 use crate::calls::call;
 use crate::command::{Command, Making};
 use crate::fault::{Fault, Part};
-use crate::next::{next, next_day, next_ladder, next_number};
+use crate::next::{next, next_named, next_number};
 use crate::numbers::counted;
 use crate::policies::policy;
 use std::alloc::Global;
@@ -65,9 +65,9 @@ fn share<'a>(heap: Global, mut words: SplitAsciiWhitespace<'a>) -> Result<Comman
 
 // book LADDER TODAY LAST FIRST OPENING SESSION
 fn making<'a>(heap: Global, words: &mut SplitAsciiWhitespace<'a>) -> Result<Making, Fault<'a>> {
-    let ladder = next_ladder(words)?;
-    let today = next_day(words, Part::Today)?;
-    let last = next_day(words, Part::Last)?;
+    let ladder = next_named(words, Part::Ladder)?;
+    let today = next_number(words, Part::Today)?;
+    let last = next_number(words, Part::Last)?;
     let first = next_number(words, Part::First)?;
     let opening = policy(heap, next(words, Part::Opening)?)?;
     let session = policy(heap, next(words, Part::Session)?)?;

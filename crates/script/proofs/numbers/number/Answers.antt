@@ -1,6 +1,5 @@
-use Rattle.std.proofs.Common.{◌≡◌, ℕ, ◌^◌, ◌<◌, true, not, eqb, List, length, Ok, Err, Result, MatchResult, IsErrAnd, OkIff, arith, rules}
+use Rattle.std.proofs.Common.{◌≡◌, ℕ, ◌^◌, ◌<◌, true, List, length, Ok, Err, Result, MatchResult, IsErrAnd, OkIff, arith, rules}
 use Rattle.std.proofs.lemmas.Str.Parse.{numerals_by_value, tells_all_ascii_digits, parse_digits}
-use Rattle.std.proofs.lemmas.Bool.{and_parts}
 use Rattle.std.proofs.lemmas.Result.{MatchResult-weaker}
 use Rattle.std.proofs.lemmas.Bool.Decides.{nat_tests}
 use Rattle.std.specs.Str.Parse.{digits_value}
@@ -19,7 +18,7 @@ pub returns : goal.returns
 returns c =
     let word = c.args.word.now in
     let numeral : is_numeral word ≡ true = search rules in
-    let both = and_parts (all_ascii_digits word) (not (eqb (length word) 0)) numeral in
+    let digits : all_ascii_digits word ≡ true = grind (arith, nat_tests) in
     let own = numerals_by_value (λ (ds : List ℕ). all_ascii_digits ds ≡ true) tells_all_ascii_digits in
-    read word c.parse.result c.map_err.result numeral (parse_digits own 32 word c.parse.result c.parse.ensures.value.0 both.0)
+    read word c.parse.result c.map_err.result numeral (parse_digits own 32 word c.parse.result c.parse.ensures.value.0 digits)
     (MatchResult-weaker c.parse.result c.map_err.ensures.cases (λ n p. p) (λ e p. search rules))

@@ -14,7 +14,5 @@ all_digits (c ∷ cs) = ap (λ b. is_ascii_digit c && b) (all_digits cs)
 pub returns-then-not-is_empty : goal.returns-then-not-is_empty
 returns-then-not-is_empty c =
     let word = c.args.word.now in
-    let all : c.all.result ≡ list_all is_ascii_digit word =
-    all_from_yields_List is_ascii_digit _ _ c.all.result c.all.ensures.ran (YieldsList-from_slice word (cc)) (λ x b q k. search (rules, tests)) in
-    let same = all_digits word in
-    grind (arith, nat_tests)
+    let all = all_from_yields_List is_ascii_digit _ _ c.all.result c.all.ensures.ran (YieldsList-from_slice word (cc)) (λ x b q k. search (rules, tests)) in
+    grind (arith, nat_tests, all_digits)

@@ -53,6 +53,7 @@ fn share<'a>(heap: Global, mut words: SplitAsciiWhitespace<'a>) -> Result<Comman
     let policy = policy(heap, next(&mut words, Part::Policy)?)?;
     let lots = next_number(&mut words, Part::Lots)?;
     let mut queue = Vec::new(heap);
+    // No `collect`: it would keep the faults of words as items.
     for word in words {
         queue.push(counted(Part::Place, word)?)?;
     }

@@ -1,170 +1,195 @@
-// Examples 1 to 9: small books and their openings. Both policies share by price/time.
+// Examples 1 to 9: small books and their openings.
+use crate::start::{limit, new_book};
 use book::phases::PreOpen;
 use policy::PriceTime;
-use rules::calls::{Condition, LimitEntry, OnOpenEntry, TimeInForce};
+use rules::calls::{EntryAnswer, OnOpenEntry, OpeningAnswer, TimeInForce};
 use rules::ladder::Ladder;
+use rules::order::Kind::{Limit, OnOpen};
+use rules::order::Side::{Bid, Offer};
 use rules::order::{Kind, Order, Side};
+use rules::refusal::Refusal;
 
 // Lots at a price, or On-Open lots.
+#[derive(Clone, Copy, PartialEq, Eq)]
+struct Lots(Side, u32, Kind);
+
+// What is entered, what the opening answers, and what it leaves.
 #[derive(Clone, Copy)]
-struct Lots {
-    side: Side,
-    lots: u32,
-    price: Option<u32>,
+struct Example {
+    ladder: Ladder,
+    entries: &'static [Lots],
+    answer: OpeningAnswer,
+    left: &'static [Lots],
 }
 
-const fn bid(lots: u32, price: u32) -> Lots {
-    Lots {
-        side: Side::Bid,
-        lots,
-        price: Some(price),
+const EXAMPLES: [Example; 9] = [
+    Example {
+        ladder: Ladder::Bond,
+        entries: &[Lots(Bid, 5, Limit(102)), Lots(Offer, 5, Limit(100))],
+        answer: OpeningAnswer {
+            price: Some(101),
+            volume: 5,
+            total: 5,
+            withdrawn: 0,
+        },
+        left: &[],
+    },
+    Example {
+        ladder: Ladder::Bond,
+        entries: &[Lots(Bid, 5, Limit(103)), Lots(Offer, 5, Limit(100))],
+        answer: OpeningAnswer {
+            price: Some(101),
+            volume: 5,
+            total: 5,
+            withdrawn: 0,
+        },
+        left: &[],
+    },
+    Example {
+        ladder: Ladder::Bond,
+        entries: &[
+            Lots(Bid, 4, Limit(103)),
+            Lots(Offer, 3, Limit(100)),
+            Lots(Offer, 3, Limit(101)),
+        ],
+        answer: OpeningAnswer {
+            price: Some(101),
+            volume: 4,
+            total: 4,
+            withdrawn: 0,
+        },
+        left: &[Lots(Offer, 2, Limit(101))],
+    },
+    Example {
+        ladder: Ladder::Bond,
+        entries: &[
+            Lots(Bid, 3, Limit(103)),
+            Lots(Bid, 3, Limit(102)),
+            Lots(Offer, 4, Limit(100)),
+        ],
+        answer: OpeningAnswer {
+            price: Some(102),
+            volume: 4,
+            total: 4,
+            withdrawn: 0,
+        },
+        left: &[Lots(Bid, 2, Limit(102))],
+    },
+    Example {
+        ladder: Ladder::Bond,
+        entries: &[
+            Lots(Bid, 4, Limit(104)),
+            Lots(Bid, 2, Limit(100)),
+            Lots(Offer, 4, Limit(99)),
+            Lots(Offer, 2, Limit(103)),
+        ],
+        answer: OpeningAnswer {
+            price: Some(101),
+            volume: 4,
+            total: 4,
+            withdrawn: 0,
+        },
+        left: &[Lots(Bid, 2, Limit(100)), Lots(Offer, 2, Limit(103))],
+    },
+    Example {
+        ladder: Ladder::Bond,
+        entries: &[
+            Lots(Bid, 1, Limit(100)),
+            Lots(Offer, 1, Limit(101)),
+            Lots(Offer, 1, OnOpen),
+        ],
+        answer: OpeningAnswer {
+            price: Some(100),
+            volume: 0,
+            total: 1,
+            withdrawn: 0,
+        },
+        left: &[Lots(Offer, 1, Limit(101))],
+    },
+    Example {
+        ladder: Ladder::Bond,
+        entries: &[Lots(Bid, 1, Limit(100)), Lots(Offer, 1, OnOpen)],
+        answer: OpeningAnswer {
+            price: None,
+            volume: 0,
+            total: 0,
+            withdrawn: 1,
+        },
+        left: &[Lots(Bid, 1, Limit(100))],
+    },
+    Example {
+        ladder: Ladder::Bond,
+        entries: &[
+            Lots(Bid, 1, Limit(10)),
+            Lots(Bid, 5, Limit(8)),
+            Lots(Offer, 1, Limit(8)),
+            Lots(Offer, 5, OnOpen),
+        ],
+        answer: OpeningAnswer {
+            price: Some(10),
+            volume: 1,
+            total: 1,
+            withdrawn: 0,
+        },
+        left: &[Lots(Bid, 5, Limit(8)), Lots(Offer, 5, Limit(10))],
+    },
+    Example {
+        ladder: Ladder::Index,
+        entries: &[
+            Lots(Bid, 1, Limit(210)),
+            Lots(Offer, 1, Limit(205)),
+            Lots(Bid, 2, OnOpen),
+        ],
+        answer: OpeningAnswer {
+            price: Some(207),
+            volume: 1,
+            total: 1,
+            withdrawn: 0,
+        },
+        left: &[Lots(Bid, 2, Limit(207))],
+    },
+];
+
+pub fn tried() -> [bool; 9] {
+    EXAMPLES.map(|example| example.opens())
+}
+
+impl Example {
+    // Enters the lots, opens, and compares.
+    fn opens(&self) -> bool {
+        let mut book = new_book(self.ladder);
+        let taken = self
+            .entries
+            .iter()
+            .all(|lots| enter(&mut book, *lots).is_ok());
+        let (session, answer) = book.open();
+        let left = session
+            .orders()
+            .iter()
+            .map(Lots::of)
+            .eq(self.left.iter().copied());
+        let _ = session.end();
+        taken && answer == self.answer && left
     }
 }
 
-const fn offer(lots: u32, price: u32) -> Lots {
-    Lots {
-        side: Side::Offer,
-        lots,
-        price: Some(price),
+impl Lots {
+    fn of(order: &Order) -> Lots {
+        Lots(order.side, order.lots, order.kind)
     }
 }
 
-const fn on_open(side: Side, lots: u32) -> Lots {
-    Lots {
-        side,
-        lots,
-        price: None,
+fn enter(
+    book: &mut PreOpen<PriceTime, PriceTime>,
+    Lots(side, lots, kind): Lots,
+) -> Result<EntryAnswer, Refusal> {
+    match kind {
+        Limit(price) => book.limit(limit(side, lots, price)),
+        OnOpen => book.on_open(OnOpenEntry {
+            id: 1,
+            side,
+            lots,
+            lifetime: TimeInForce::default(),
+        }),
     }
-}
-
-// What an opening answers, and what it leaves.
-#[derive(Drop)]
-struct Opened<'a> {
-    price: Option<u32>,
-    volume: u32,
-    total: u32,
-    withdrawn: u32,
-    left: &'a [Lots],
-}
-
-pub fn tried(number: u32) -> bool {
-    match number {
-        1 => opens(
-            Ladder::Bond,
-            &[bid(5, 102), offer(5, 100)],
-            answer(101, 5, 5, &[]),
-        ),
-        2 => opens(
-            Ladder::Bond,
-            &[bid(5, 103), offer(5, 100)],
-            answer(101, 5, 5, &[]),
-        ),
-        3 => opens(
-            Ladder::Bond,
-            &[bid(4, 103), offer(3, 100), offer(3, 101)],
-            answer(101, 4, 4, &[offer(2, 101)]),
-        ),
-        4 => opens(
-            Ladder::Bond,
-            &[bid(3, 103), bid(3, 102), offer(4, 100)],
-            answer(102, 4, 4, &[bid(2, 102)]),
-        ),
-        5 => opens(
-            Ladder::Bond,
-            &[bid(4, 104), bid(2, 100), offer(4, 99), offer(2, 103)],
-            answer(101, 4, 4, &[bid(2, 100), offer(2, 103)]),
-        ),
-        6 => opens(
-            Ladder::Bond,
-            &[bid(1, 100), offer(1, 101), on_open(Side::Offer, 1)],
-            answer(100, 0, 1, &[offer(1, 101)]),
-        ),
-        7 => {
-            let none = Opened {
-                price: None,
-                volume: 0,
-                total: 0,
-                withdrawn: 1,
-                left: &[bid(1, 100)],
-            };
-            opens(Ladder::Bond, &[bid(1, 100), on_open(Side::Offer, 1)], none)
-        }
-        8 => opens(
-            Ladder::Bond,
-            &[bid(1, 10), bid(5, 8), offer(1, 8), on_open(Side::Offer, 5)],
-            answer(10, 1, 1, &[bid(5, 8), offer(5, 10)]),
-        ),
-        _ => opens(
-            Ladder::Index,
-            &[bid(1, 210), offer(1, 205), on_open(Side::Bid, 2)],
-            answer(207, 1, 1, &[bid(2, 207)]),
-        ),
-    }
-}
-
-fn answer<'a>(price: u32, volume: u32, total: u32, left: &'a [Lots]) -> Opened<'a> {
-    Opened {
-        price: Some(price),
-        volume,
-        total,
-        withdrawn: 0,
-        left,
-    }
-}
-
-fn enter(book: &mut PreOpen<PriceTime, PriceTime>, entry: Lots) -> bool {
-    let Lots { side, lots, price } = entry;
-    let lifetime = TimeInForce::Plain;
-    match price {
-        Some(price) => {
-            let condition = Condition::Unconditional;
-            book.limit(LimitEntry {
-                id: 1,
-                side,
-                price,
-                lots,
-                lifetime,
-                condition,
-            })
-            .is_ok()
-        }
-        None => book
-            .on_open(OnOpenEntry {
-                id: 1,
-                side,
-                lots,
-                lifetime,
-            })
-            .is_ok(),
-    }
-}
-
-// Enters the lots, opens, and compares.
-fn opens(ladder: Ladder, entries: &[Lots], wanted: Opened) -> bool {
-    let mut book = PreOpen::new(PriceTime, PriceTime, ladder, 1, 9, 1);
-    let mut taken = true;
-    for entry in entries {
-        taken = enter(&mut book, *entry) && taken;
-    }
-    let (session, got) = book.open();
-    let same = taken
-        && got.price == wanted.price
-        && got.volume == wanted.volume
-        && got.total == wanted.total
-        && got.withdrawn == wanted.withdrawn
-        && are(session.orders(), wanted.left);
-    let _ = session.end();
-    same
-}
-
-fn are(orders: &[Order], wanted: &[Lots]) -> bool {
-    let mut same = orders.len() == wanted.len();
-    for (o, w) in orders.iter().zip(wanted) {
-        same = same && is(*o, *w);
-    }
-    same
-}
-
-fn is(o: Order, wanted: Lots) -> bool {
-    o.side.is(wanted.side) && o.lots == wanted.lots && o.limit(o.side) == wanted.price
 }

@@ -4,7 +4,7 @@ use rules::calls::Call;
 use rules::ladder::Ladder;
 
 // What a book is made of.
-#[derive(Clone, Copy)]
+#[derive(Clone, Copy, PartialEq, Eq, Debug)]
 pub struct Making {
     pub ladder: Ladder,
     pub today: u16,
@@ -14,7 +14,7 @@ pub struct Making {
     pub session: Chosen,
 }
 
-#[derive(Drop)]
+#[derive(Drop, PartialEq, Eq, Debug)]
 pub enum Command {
     // How a policy shares lots over a queue; no book is asked.
     Share {

@@ -3,7 +3,7 @@ use std::alloc::{AllocError, AllocFailed};
 use std::fmt;
 
 // What a word of a call stands for.
-#[derive(Clone, Copy)]
+#[derive(Clone, Copy, PartialEq, Eq, Debug)]
 pub enum Part {
     Policy,
     Cap,
@@ -25,8 +25,19 @@ pub enum Part {
 }
 
 impl Part {
-    fn name(self) -> &'static str {
+    // The largest number that is read for the part.
+    fn most(self) -> u32 {
         match self {
+            Part::Id | Part::Other => u8::MAX.into(),
+            Part::Today | Part::Last | Part::Day => u16::MAX.into(),
+            _ => u32::MAX,
+        }
+    }
+}
+
+impl fmt::Display for Part {
+    fn fmt<W: fmt::Write>(&self, f: &mut fmt::Formatter<W>) -> fmt::Result {
+        f.write_str(match self {
             Part::Policy => "policy",
             Part::Cap => "cap",
             Part::Minimum => "minimum",
@@ -44,27 +55,12 @@ impl Part {
             Part::Price => "price",
             Part::Number => "number",
             Part::Day => "day",
-        }
-    }
-
-    // The largest number that is read for the part.
-    fn most(self) -> u32 {
-        match self {
-            Part::Id | Part::Other => u8::MAX as u32,
-            Part::Today | Part::Last | Part::Day => u16::MAX as u32,
-            _ => u32::MAX,
-        }
-    }
-}
-
-impl fmt::Display for Part {
-    fn fmt<W: fmt::Write>(&self, f: &mut fmt::Formatter<W>) -> fmt::Result {
-        f.write_str(self.name())
+        })
     }
 }
 
 // A word that is one of a few.
-#[derive(Clone, Copy)]
+#[derive(Clone, Copy, PartialEq, Eq, Debug)]
 pub enum Choice {
     Policy,
     Ladder,
@@ -76,17 +72,7 @@ pub enum Choice {
 }
 
 impl Choice {
-    fn name(self) -> &'static str {
-        match self {
-            Choice::Policy => "policy",
-            Choice::Ladder => "ladder",
-            Choice::Side => "side",
-            Choice::Lifetime => "lifetime",
-            Choice::Condition => "condition",
-            Choice::Modifier => "lifetime or condition",
-        }
-    }
-
+    // The words that are known.
     fn known(self) -> &'static str {
         match self {
             Choice::Policy => "price-time, pro-rata, favour:CAP:MIN:POLICY",
@@ -99,8 +85,21 @@ impl Choice {
     }
 }
 
+impl fmt::Display for Choice {
+    fn fmt<W: fmt::Write>(&self, f: &mut fmt::Formatter<W>) -> fmt::Result {
+        f.write_str(match self {
+            Choice::Policy => "policy",
+            Choice::Ladder => "ladder",
+            Choice::Side => "side",
+            Choice::Lifetime => "lifetime",
+            Choice::Condition => "condition",
+            Choice::Modifier => "lifetime or condition",
+        })
+    }
+}
+
 // A fault holds the word that it speaks of, which is quoted so that it stays on one line.
-#[derive(Clone, Copy)]
+#[derive(Clone, Copy, PartialEq, Eq, Debug)]
 pub enum Fault<'a> {
     NotText,
     UnknownCall(&'a str),
@@ -116,24 +115,21 @@ pub enum Fault<'a> {
 impl fmt::Display for Fault<'_> {
     fn fmt<W: fmt::Write>(&self, f: &mut fmt::Formatter<W>) -> fmt::Result {
         match self {
-            Fault::NotText => write!(f, "not text in UTF-8"),
+            Fault::NotText => f.write_str("not text in UTF-8"),
             Fault::UnknownCall(word) => {
                 write!(f, "unknown call {word:?} (optbook --help lists the calls)")
             }
             Fault::Missing(part) => write!(f, "missing word: {part}"),
             Fault::Spare(word) => write!(f, "spare word: {word:?}"),
             Fault::Unknown(choice, word) => {
-                let name = choice.name();
-                let known = choice.known();
-                write!(f, "unknown {name} {word:?} (known: {known})")
+                write!(f, "unknown {choice} {word:?} (known: {})", choice.known())
             }
             Fault::TooManyFavours(word) => write!(f, "more than four favours in policy {word:?}"),
             Fault::NotANumber(part, word) => write!(f, "{part} is not a number: {word:?}"),
             Fault::TooLarge(part, word) => {
-                let most = part.most();
-                write!(f, "{part} is above {most}: {word:?}")
+                write!(f, "{part} is above {}: {word:?}", part.most())
             }
-            Fault::NoMemory => write!(f, "too long for the memory there is"),
+            Fault::NoMemory => f.write_str("too long for the memory there is"),
         }
     }
 }

@@ -1,56 +1,36 @@
 // The next word of a line, by what it stands for.
 use crate::fault::{Choice, Fault, Part};
-use crate::numbers::{counted, day, id};
-use crate::words::{condition, ladder, lifetime, side};
+use crate::numbers::{Numeric, counted};
+use crate::words::{Modifier, Named, read_name};
 use rules::calls::{Condition, TimeInForce};
-use rules::ladder::Ladder;
-use rules::order::Side;
 use std::str::SplitAsciiWhitespace;
 
 pub fn next<'a>(words: &mut SplitAsciiWhitespace<'a>, part: Part) -> Result<&'a str, Fault<'a>> {
-    match words.next() {
-        Some(word) => Ok(word),
-        None => Err(Fault::Missing(part)),
-    }
+    words.next().ok_or(Fault::Missing(part))
 }
 
-pub fn next_number<'a>(words: &mut SplitAsciiWhitespace<'a>, part: Part) -> Result<u32, Fault<'a>> {
+pub fn next_number<'a, T: Numeric>(
+    words: &mut SplitAsciiWhitespace<'a>,
+    part: Part,
+) -> Result<T, Fault<'a>> {
     counted(part, next(words, part)?)
 }
 
-pub fn next_day<'a>(words: &mut SplitAsciiWhitespace<'a>, part: Part) -> Result<u16, Fault<'a>> {
-    day(part, next(words, part)?)
+pub fn next_named<'a, T: Named>(
+    words: &mut SplitAsciiWhitespace<'a>,
+    part: Part,
+) -> Result<T, Fault<'a>> {
+    read_name(next(words, part)?)
 }
 
-pub fn next_id<'a>(words: &mut SplitAsciiWhitespace<'a>, part: Part) -> Result<u8, Fault<'a>> {
-    id(part, next(words, part)?)
-}
-
-pub fn next_ladder<'a>(words: &mut SplitAsciiWhitespace<'a>) -> Result<Ladder, Fault<'a>> {
-    let word = next(words, Part::Ladder)?;
-    match ladder(word) {
-        Some(ladder) => Ok(ladder),
-        None => Err(Fault::Unknown(Choice::Ladder, word)),
-    }
-}
-
-pub fn next_side<'a>(words: &mut SplitAsciiWhitespace<'a>) -> Result<Side, Fault<'a>> {
-    let word = next(words, Part::Side)?;
-    match side(word) {
-        Some(side) => Ok(side),
-        None => Err(Fault::Unknown(Choice::Side, word)),
-    }
-}
-
-// [LIFETIME]
-pub fn next_lifetime<'a>(words: &mut SplitAsciiWhitespace<'a>) -> Result<TimeInForce, Fault<'a>> {
+// [LIFETIME] or [CONDITION]
+pub fn next_modifier<'a, T: Modifier>(
+    words: &mut SplitAsciiWhitespace<'a>,
+) -> Result<T, Fault<'a>> {
     let Some(word) = words.next() else {
-        return Ok(TimeInForce::Plain);
+        return Ok(T::default());
     };
-    match lifetime(word)? {
-        Some(lifetime) => Ok(lifetime),
-        None => Err(Fault::Unknown(Choice::Lifetime, word)),
-    }
+    T::written(word)?.ok_or(Fault::Unknown(T::CHOICE, word))
 }
 
 // [LIFETIME] [CONDITION]
@@ -58,24 +38,11 @@ pub fn next_modifiers<'a>(
     words: &mut SplitAsciiWhitespace<'a>,
 ) -> Result<(TimeInForce, Condition), Fault<'a>> {
     let Some(word) = words.next() else {
-        return Ok((TimeInForce::Plain, Condition::Unconditional));
+        return Ok((TimeInForce::default(), Condition::default()));
     };
-    if let Some(lifetime) = lifetime(word)? {
-        return Ok((lifetime, next_condition(words)?));
+    if let Some(lifetime) = TimeInForce::written(word)? {
+        return Ok((lifetime, next_modifier(words)?));
     }
-    match condition(word)? {
-        Some(condition) => Ok((TimeInForce::Plain, condition)),
-        None => Err(Fault::Unknown(Choice::Modifier, word)),
-    }
-}
-
-// [CONDITION]
-fn next_condition<'a>(words: &mut SplitAsciiWhitespace<'a>) -> Result<Condition, Fault<'a>> {
-    let Some(word) = words.next() else {
-        return Ok(Condition::Unconditional);
-    };
-    match condition(word)? {
-        Some(condition) => Ok(condition),
-        None => Err(Fault::Unknown(Choice::Condition, word)),
-    }
+    let condition = Condition::written(word)?.ok_or(Fault::Unknown(Choice::Modifier, word))?;
+    Ok((TimeInForce::default(), condition))
 }

@@ -1,26 +1,50 @@
 // The numbers of a script: decimal digits and nothing else, no sign.
-ghost use Rattle.std.specs.Prelude.{◌≡◌, IfOk, Ok};
+ghost use Rattle.std.specs.Prelude.{◌≡◌, ℕ, Result, IfOk, Ok, Err};
+ghost use Rattle.std.specs.declared.num.TryFromIntError.{TryFromIntError};
 ghost use Rattle.script.specs.Numbers.{is_numeral, number_read};
 
 use crate::fault::{Fault, Part};
+use std::num::TryFromIntError;
 
 // Why a word is not read as a number.
-#[derive(Clone, Copy)]
+#[derive(Clone, Copy, PartialEq, Eq, Debug)]
 pub enum Unread {
     NotDigits,
     TooLarge,
+}
+
+// A type whose values a script writes in digits.
+pub trait Numeric: TryFrom<u32, Error = TryFromIntError> {
+    // The number that a value is.
+    ghost value: { Self → ℕ };
+
+    // A number that fits the type becomes the value that it is.
+    ghost fits: { (n : ℕ) (r : Result Self TryFromIntError) → Self.try_from_gives n r → IfOk r (λ x. value x ≡ n) };
+}
+
+impl Numeric for u8 {
+    ghost value = { λ n. n };
+
+    ghost fits = { λ n. elim [ Ok x ↦ λ h. h.1 | Err e ↦ λ h. tt ] };
+}
+
+impl Numeric for u16 {
+    ghost value = { λ n. n };
+
+    ghost fits = { λ n. elim [ Ok x ↦ λ h. h.1 | Err e ↦ λ h. tt ] };
+}
+
+impl Numeric for u32 {
+    ghost value = { λ n. n };
+
+    ghost fits = { λ n. elim [ Ok x ↦ λ h. h.1 | Err e ↦ λ h. tt ] };
 }
 
 // Whether the word is one digit or more, and nothing else.
 fn numeral(word: &str) -> bool
     ensures { result ≡ is_numeral word.now }
 {
-    for byte in word.as_bytes() {
-        if !byte.is_ascii_digit() {
-            return false;
-        }
-    }
-    !word.is_empty()
+    !word.is_empty() && word.as_bytes().iter().all(u8::is_ascii_digit)
 }
 
 fn number(word: &str) -> Result<u32, Unread>
@@ -29,41 +53,16 @@ fn number(word: &str) -> Result<u32, Unread>
     if !numeral(word) {
         return Err(Unread::NotDigits);
     }
-    match word.parse::<u32>() {
-        Ok(n) => Ok(n),
-        Err(_) => Err(Unread::TooLarge),
-    }
+    word.parse().map_err(|_| Unread::TooLarge)
 }
 
 // The number that the word writes.
-pub fn counted<'a>(part: Part, word: &'a str) -> Result<u32, Fault<'a>>
-    ensures { IfOk result (λ n. number_read word.now ≡ Ok n) }
+pub fn counted<'a, T: Numeric>(part: Part, word: &'a str) -> Result<T, Fault<'a>>
+    ensures { IfOk result (λ n. number_read word.now ≡ Ok (T.value n)) }
 {
-    match number(word) {
-        Ok(n) => Ok(n),
-        Err(Unread::NotDigits) => Err(Fault::NotANumber(part, word)),
-        Err(Unread::TooLarge) => Err(Fault::TooLarge(part, word)),
-    }
-}
-
-// The number of an ID.
-pub fn id<'a>(part: Part, word: &'a str) -> Result<u8, Fault<'a>>
-    ensures { IfOk result (λ n. number_read word.now ≡ Ok n) }
-{
-    let n = counted(part, word)?;
-    if n > u8::MAX as u32 {
-        return Err(Fault::TooLarge(part, word));
-    }
-    Ok(n as u8)
-}
-
-// The number of a day.
-pub fn day<'a>(part: Part, word: &'a str) -> Result<u16, Fault<'a>>
-    ensures { IfOk result (λ n. number_read word.now ≡ Ok n) }
-{
-    let n = counted(part, word)?;
-    if n > u16::MAX as u32 {
-        return Err(Fault::TooLarge(part, word));
-    }
-    Ok(n as u16)
+    let n = number(word).map_err(|unread| match unread {
+        Unread::NotDigits => Fault::NotANumber(part, word),
+        Unread::TooLarge => Fault::TooLarge(part, word),
+    })?;
+    T::try_from(n).map_err(|_| Fault::TooLarge(part, word))
 }

@@ -1,11 +1,11 @@
 // The words that name a policy.
 ghost use Rattle.std.specs.Prelude.{◌≡◌, IfSome, IfOk};
-ghost use Rattle.script.specs.Words.{Names};
-ghost use Rattle.script.specs.Policies.{base_name, favour_word, NamesPolicy};
+ghost use Rattle.script.specs.Policies.{favour_word, NamesPolicy};
 
-use crate::fault::{Choice, Fault, Part};
+use crate::fault::{Fault, Part};
 use crate::numbers::counted;
-use policy::{Base, Chosen, choose};
+use crate::words::read_name;
+use policy::{Chosen, choose};
 use std::alloc::Global;
 
 // The policy that a word names: favours, if any, the outermost first, over a base.
@@ -18,13 +18,7 @@ pub fn policy<'a>(heap: Global, word: &'a str) -> Result<Chosen, Fault<'a>>
         favours.push((counted(Part::Cap, cap)?, counted(Part::Minimum, minimum)?))?;
         rest = below;
     }
-    let Some(base) = base(rest) else {
-        return Err(Fault::Unknown(Choice::Policy, rest));
-    };
-    match choose(base, &favours) {
-        Some(policy) => Ok(policy),
-        None => Err(Fault::TooManyFavours(word)),
-    }
+    choose(read_name(rest)?, &favours).ok_or(Fault::TooManyFavours(word))
 }
 
 // The cap, the minimum and the policy below, where the word is favour:CAP:MIN:POLICY.
@@ -34,15 +28,4 @@ fn favour(word: &str) -> Option<(&str, &str, &str)>
     let (cap, rest) = word.strip_prefix("favour:")?.split_once(':')?;
     let (minimum, below) = rest.split_once(':')?;
     Some((cap, minimum, below))
-}
-
-// The base that the word names.
-fn base(word: &str) -> Option<Base>
-    ensures { Names base_name word.now result }
-{
-    match word {
-        "price-time" => Some(Base::PriceTime),
-        "pro-rata" => Some(Base::ProRata),
-        _ => None,
-    }
 }

@@ -2,7 +2,7 @@
 use crate::calls::call;
 use crate::command::{Command, Making};
 use crate::fault::{Fault, Part};
-use crate::next::{next, next_day, next_ladder, next_number};
+use crate::next::{next, next_named, next_number};
 use crate::numbers::counted;
 use crate::policies::policy;
 use std::alloc::Global;
@@ -53,6 +53,7 @@ fn share<'a>(heap: Global, mut words: SplitAsciiWhitespace<'a>) -> Result<Comman
     let policy = policy(heap, next(&mut words, Part::Policy)?)?;
     let lots = next_number(&mut words, Part::Lots)?;
     let mut queue = Vec::new(heap);
+    // No `collect`: it would keep the faults of words as items.
     for word in words {
         queue.push(counted(Part::Place, word)?)?;
     }
@@ -65,9 +66,9 @@ fn share<'a>(heap: Global, mut words: SplitAsciiWhitespace<'a>) -> Result<Comman
 
 // book LADDER TODAY LAST FIRST OPENING SESSION
 fn making<'a>(heap: Global, words: &mut SplitAsciiWhitespace<'a>) -> Result<Making, Fault<'a>> {
-    let ladder = next_ladder(words)?;
-    let today = next_day(words, Part::Today)?;
-    let last = next_day(words, Part::Last)?;
+    let ladder = next_named(words, Part::Ladder)?;
+    let today = next_number(words, Part::Today)?;
+    let last = next_number(words, Part::Last)?;
     let first = next_number(words, Part::First)?;
     let opening = policy(heap, next(words, Part::Opening)?)?;
     let session = policy(heap, next(words, Part::Session)?)?;

@@ -1,60 +1,125 @@
-// The words that name a ladder, a side, a lifetime or a condition.
-ghost use Rattle.std.specs.Prelude.{IfSome, IfOk};
-ghost use Rattle.script.specs.Modifiers.{WritesLifetime, WritesCondition};
+// The words that stand for one of a few things.
+ghost use Rattle.std.specs.Prelude.{◌≡◌, ℕ, List, IfSome, IfOk};
+ghost use Rattle.script.specs.Modifiers.{Tagged, WritesLifetime, WritesCondition};
+ghost use Rattle.script.specs.Policies.{base_name};
 ghost use Rattle.script.specs.Words.{Names, ladder_name, side_name};
 
-use crate::fault::{Fault, Part};
-use crate::numbers::{counted, day};
+use crate::fault::{Choice, Fault, Part};
+use crate::numbers::{Numeric, counted};
+use policy::Base;
 use rules::calls::{Condition, TimeInForce};
 use rules::ladder::Ladder;
 use rules::order::Side;
 
-pub fn ladder(word: &str) -> Option<Ladder>
-    ensures { Names ladder_name word.now result }
-{
-    match word {
-        "securities" => Some(Ladder::Securities),
-        "index" => Some(Ladder::Index),
-        "bond" => Some(Ladder::Bond),
-        _ => None,
+// One of a few things that each have a name.
+pub trait Named: Sized {
+    const CHOICE: Choice;
+
+    ghost name: { Self → List ℕ };
+
+    // What the word names, if it names one.
+    fn named(word: &str) -> Option<Self>
+        ensures { Names name word.now result };
+}
+
+impl Named for Ladder {
+    const CHOICE: Choice = Choice::Ladder;
+
+    ghost name = { ladder_name };
+
+    fn named(word: &str) -> Option<Ladder> {
+        match word {
+            "securities" => Some(Ladder::Securities),
+            "index" => Some(Ladder::Index),
+            "bond" => Some(Ladder::Bond),
+            _ => None,
+        }
     }
 }
 
-pub fn side(word: &str) -> Option<Side>
-    ensures { Names side_name word.now result }
-{
-    match word {
-        "bid" => Some(Side::Bid),
-        "offer" => Some(Side::Offer),
-        _ => None,
+impl Named for Side {
+    const CHOICE: Choice = Choice::Side;
+
+    ghost name = { side_name };
+
+    fn named(word: &str) -> Option<Side> {
+        match word {
+            "bid" => Some(Side::Bid),
+            "offer" => Some(Side::Offer),
+            _ => None,
+        }
     }
 }
 
-// plain, gis, gtc or gtc:DAY; none where the word is no lifetime.
-pub fn lifetime(word: &str) -> Result<Option<TimeInForce>, Fault<'_>>
-    ensures { IfOk result (λ o. IfSome o (WritesLifetime word.now)) }
-{
-    match word {
-        "plain" => Ok(Some(TimeInForce::Plain)),
-        "gis" => Ok(Some(TimeInForce::Gis)),
-        "gtc" => Ok(Some(TimeInForce::Gtc(None))),
-        _ => match word.strip_prefix("gtc:") {
-            Some(number) => Ok(Some(TimeInForce::Gtc(Some(day(Part::Day, number)?)))),
-            None => Ok(None),
-        },
+impl Named for Base {
+    const CHOICE: Choice = Choice::Policy;
+
+    ghost name = { base_name };
+
+    fn named(word: &str) -> Option<Base> {
+        match word {
+            "price-time" => Some(Base::PriceTime),
+            "pro-rata" => Some(Base::ProRata),
+            _ => None,
+        }
     }
 }
 
-// ic, cv or mv:MIN; none where the word is no condition.
-pub fn condition(word: &str) -> Result<Option<Condition>, Fault<'_>>
-    ensures { IfOk result (λ o. IfSome o (WritesCondition word.now)) }
+// What the word names, which has to be one of the things.
+pub fn read_name<T: Named>(word: &str) -> Result<T, Fault<'_>>
+    ensures { IfOk result (λ x. word.now ≡ T.name x) }
 {
-    match word {
-        "ic" => Ok(Some(Condition::Ic)),
-        "cv" => Ok(Some(Condition::Cv)),
-        _ => match word.strip_prefix("mv:") {
-            Some(number) => Ok(Some(Condition::Mv(counted(Part::Minimum, number)?))),
-            None => Ok(None),
-        },
+    T::named(word).ok_or(Fault::Unknown(T::CHOICE, word))
+}
+
+// What may stand at the end of a call; the default where it does not.
+pub trait Modifier: Default {
+    const CHOICE: Choice;
+
+    // That the word writes the modifier.
+    ghost writes: { List ℕ → Self → Type 0 };
+
+    // The modifier that the word writes; none where it is no such modifier.
+    fn written(word: &str) -> Result<Option<Self>, Fault<'_>>
+        ensures { IfOk result (λ o. IfSome o (writes word.now)) };
+}
+
+// plain, gis, gtc or gtc:DAY
+impl Modifier for TimeInForce {
+    const CHOICE: Choice = Choice::Lifetime;
+
+    ghost writes = { WritesLifetime };
+
+    fn written(word: &str) -> Result<Option<TimeInForce>, Fault<'_>> {
+        match word {
+            "plain" => Ok(Some(TimeInForce::Plain)),
+            "gis" => Ok(Some(TimeInForce::Gis)),
+            "gtc" => Ok(Some(TimeInForce::Gtc(None))),
+            _ => Ok(tagged("gtc:", Part::Day, word)?.map(|day| TimeInForce::Gtc(Some(day)))),
+        }
     }
+}
+
+// ic, cv or mv:MIN
+impl Modifier for Condition {
+    const CHOICE: Choice = Choice::Condition;
+
+    ghost writes = { WritesCondition };
+
+    fn written(word: &str) -> Result<Option<Condition>, Fault<'_>> {
+        match word {
+            "ic" => Ok(Some(Condition::Ic)),
+            "cv" => Ok(Some(Condition::Cv)),
+            _ => Ok(tagged("mv:", Part::Minimum, word)?.map(Condition::Mv)),
+        }
+    }
+}
+
+// The number behind the prefix; none where the word has another beginning.
+fn tagged<'a, T: Numeric>(prefix: &str, part: Part, word: &'a str) -> Result<Option<T>, Fault<'a>>
+    ensures { IfOk result (λ o. IfSome o (λ n. Tagged prefix.now word.now (T.value n))) }
+{
+    word.strip_prefix(prefix)
+        .map(|digits| counted(part, digits))
+        .transpose()
 }

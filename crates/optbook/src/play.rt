@@ -23,13 +23,8 @@ pub struct Summary {
 pub fn play<R: BufRead + Drop>(rt: &HostRuntime, script: R) -> io::Result<Summary> {
     let mut tally = Tally::default();
     let mut run = Run::default();
-    let mut lines = script.split(rt.alloc(), b'\n');
-    for number in 1..u64::MAX {
-        let Some(line) = lines.next() else {
-            break;
-        };
-        let outcome = report(rt, &mut run, number, &line?)?;
-        tally.count(outcome);
+    for (number, line) in (1..u64::MAX).zip(script.split(rt.alloc(), b'\n')) {
+        tally.count(report(rt, &mut run, number, &line?)?);
     }
     let balance = run.balance();
     Ok(Summary { tally, balance })

@@ -19,7 +19,7 @@ pub struct Summary {
     pub balance: Option<Balance>,
 }
 
-// The count of lines has an end only so that the run is seen to have one.
+// The numbers of lines end below the largest, so that the counts of a tally fit.
 pub fn play<R: BufRead + Drop>(rt: &HostRuntime, script: R) -> io::Result<Summary> {
     let mut tally = Tally::default();
     let mut run = Run::default();

@@ -66,6 +66,7 @@ impl<O: Policy, S: Policy> AnyBook<O, S> {
         self.step(call)
     }
 
+    // The step alone; `send` adds what follows from it for a run of calls.
     fn step(self, call: Call) -> (AnyBook<O, S>, Answer)
         ensures { Stepped O.Policy.rule S.Policy.rule self call result.1 result.0 }
     {

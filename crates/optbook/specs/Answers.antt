@@ -1,5 +1,6 @@
 -- What a line is answered, and how that is printed and counted.
-use Rattle.std.specs.Prelude.{◌≡◌, ℕ, true, false, List, [], ◌∷◌, ◌++◌, vec_items, codes, decimal}
+use Rattle.std.specs.Prelude.{◌≡◌, ℕ, true, false, List, ◌∷◌, ◌++◌, Ok, Err, vec_items, codes, decimal}
+use Rattle.std.specs.List.{flat_map}
 use Rattle.policy.specs.Asked as policy
 use Rattle.policy.specs.Chosen.{Chosen, chosen_rule}
 use Rattle.policy.specs.Queue.{is_queue}
@@ -13,44 +14,32 @@ use Rattle.rules.specs.declared.calls.TrialAnswer.{TrialAnswer}
 use Rattle.optbook.specs.Pages.{page_text}
 use Rattle.optbook.specs.Words.{price_word}
 use Rattle.optbook.specs.declared.answer.Answer.{Answer}
-use Rattle.optbook.specs.declared.answer.Answer.TheVariants.{Shares, NoQueue, Made, Shown, Called}
+use Rattle.optbook.specs.declared.answer.Answer.TheVariants.{Shares, Made, Shown, Called}
 use Rattle.optbook.specs.declared.tally.Outcome.{Outcome}
 use Rattle.optbook.specs.declared.tally.Outcome.TheVariants as outcome
 
 -- A call that the phase does not offer counts as refused.
 abbrev pub call_outcome : calls.Answer → Outcome
-call_outcome (Entered e) = outcome.Taken
-call_outcome (Cancelled lots) = outcome.Taken
-call_outcome (Reduced lots) = outcome.Taken
-call_outcome (Dropped pair) = outcome.Taken
-call_outcome Done = outcome.Taken
-call_outcome (Tried t) = outcome.Taken
-call_outcome (Opened o) = outcome.Taken
-call_outcome (Closed pair) = outcome.Taken
 call_outcome (Refused refusal) = outcome.Refused
 call_outcome WrongPhase = outcome.Refused
+call_outcome answer = outcome.Taken
 
 abbrev pub outcome_of : Answer → Outcome
-outcome_of (Shares shares) = outcome.Taken
-outcome_of (NoQueue refusal) = outcome.Refused
-outcome_of Made = outcome.Taken
-outcome_of (Shown page) = outcome.Taken
+outcome_of (Shares (Err refusal)) = outcome.Refused
 outcome_of (Called answer) = call_outcome answer
+outcome_of answer = outcome.Taken
 
 -- The shares of a queue by the policy's rule; what is no queue is refused.
 abbrev pub Shared : Chosen → List ℕ → ℕ → Answer → Type 0
-Shared policy queue lots (Shares shares) = (is_queue queue ≡ true) × (vec_items shares ≡ chosen_rule policy queue lots)
-Shared policy queue lots (NoQueue refusal) = (is_queue queue ≡ false) × (refusal ≡ NotAQueue)
-Shared policy queue lots Made = ⊥
-Shared policy queue lots (Shown page) = ⊥
-Shared policy queue lots (Called answer) = ⊥
+Shared policy queue lots (Shares (Ok shares)) = (is_queue queue ≡ true) × (vec_items shares ≡ chosen_rule policy queue lots)
+Shared policy queue lots (Shares (Err refusal)) = (is_queue queue ≡ false) × (refusal ≡ NotAQueue)
+Shared policy queue lots answer = ⊥
 
 -- ---- the lines that are printed
 
 -- A blank before each number.
 abbrev pub spaced_text : List ℕ → List ℕ
-spaced_text [] = []
-spaced_text (n ∷ ns) = 32 ∷ (decimal n ++ spaced_text ns)
+spaced_text ns = flat_map (λ n. 32 ∷ decimal n) ns
 
 abbrev pub entered_text : EntryAnswer → List ℕ
 entered_text e =
@@ -76,8 +65,8 @@ call_text (Refused refusal) = codes "refused " ++ decimal (number_of refusal)
 call_text WrongPhase = codes "wrong phase"
 
 abbrev pub answer_text : Answer → List ℕ
-answer_text (Shares shares) = codes "shares" ++ spaced_text (vec_items shares)
-answer_text (NoQueue refusal) = codes "refused " ++ decimal (policy.number_of refusal)
+answer_text (Shares (Ok shares)) = codes "shares" ++ spaced_text (vec_items shares)
+answer_text (Shares (Err refusal)) = codes "refused " ++ decimal (policy.number_of refusal)
 answer_text Made = codes "made"
 answer_text (Shown page) = page_text page
 answer_text (Called answer) = call_text answer

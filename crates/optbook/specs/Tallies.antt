@@ -14,9 +14,6 @@ counted t Refused =
 counted t NotUnderstood =
     record { calls = t.calls; taken = t.taken; refused = t.refused; not_understood = t.not_understood + 1 }
 
-abbrev pub none : Tally
-none = record { calls = 0; taken = 0; refused = 0; not_understood = 0 }
-
 -- Each count is below n.
 pub record Few (t : Tally) (n : ℕ) : Type 0 where
   pub calls : t.calls < n

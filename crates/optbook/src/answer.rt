@@ -7,9 +7,8 @@ mod text;
 
 #[derive(Drop)]
 pub enum Answer {
-    Shares(Vec<u32>),
-    // The list is no queue.
-    NoQueue(Refusal),
+    // The shares of a queue, or the refusal of a list that is none.
+    Shares(Result<Vec<u32>, Refusal>),
     // A book is made.
     Made,
     Shown(Page),

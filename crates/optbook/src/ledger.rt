@@ -3,7 +3,7 @@ mod counts;
 
 pub use counts::open_lots;
 
-#[derive(Clone, Copy)]
+#[derive(Clone, Copy, Default)]
 pub struct Ledger {
     // The volumes of the entries that were taken.
     pub accepted: u64,

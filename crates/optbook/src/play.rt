@@ -5,7 +5,6 @@ use crate::run::Run;
 use crate::tally::{Outcome, Tally};
 use crate::word::Word;
 use rules::tape::TapeLine;
-use script::command::Command;
 use script::fault::Fault;
 use script::reader::read;
 use std::alloc::Global;
@@ -20,36 +19,29 @@ pub struct Summary {
     pub balance: Option<Balance>,
 }
 
-// The count of lines has an end only so that the run is seen to have one.
-pub fn play<R: BufRead + Drop>(rt: &HostRuntime, mut script: R) -> io::Result<Summary> {
-    let mut tally = Tally::new();
-    let mut run = Run::new();
-    for number in 1..u64::MAX {
-        let mut line = Vec::new(rt.alloc());
-        if script.read_until(b'\n', &mut line)? == 0 {
-            break;
-        }
-        let (next, outcome) = report(rt, run, number, &line)?;
-        run = next;
-        tally.count(outcome);
+// The numbers of lines end below the largest, so that the counts of a tally fit.
+pub fn play<R: BufRead + Drop>(rt: &HostRuntime, script: R) -> io::Result<Summary> {
+    let mut tally = Tally::default();
+    let mut run = Run::default();
+    for (number, line) in (1..u64::MAX).zip(script.split(rt.alloc(), b'\n')) {
+        tally.count(report(rt, &mut run, number, &line?)?);
     }
     let balance = run.balance();
     Ok(Summary { tally, balance })
 }
 
 // Answers the line, and says what became of it.
-fn report(rt: &HostRuntime, run: Run, number: u64, line: &[u8]) -> io::Result<(Run, Outcome)> {
-    let (run, answer) = answer(rt.alloc(), run, line);
-    match answer {
-        Ok(None) => Ok((run, Outcome::Passed)),
+fn report(rt: &HostRuntime, run: &mut Run, number: u64, line: &[u8]) -> io::Result<Outcome> {
+    match answer(rt.alloc(), run, line) {
+        Ok(None) => Ok(Outcome::Passed),
         Ok(Some(answer)) => {
             rt.println(&answer)?;
             print_tape(rt, run.written(&answer))?;
-            Ok((run, answer.outcome()))
+            Ok(answer.outcome())
         }
         Err(fault) => {
             println!(rt; "line {number}: {fault}")?;
-            Ok((run, Outcome::NotUnderstood))
+            Ok(Outcome::NotUnderstood)
         }
     }
 }
@@ -61,23 +53,12 @@ fn print_tape(rt: &HostRuntime, tape: &[TapeLine]) -> io::Result<()> {
     Ok(())
 }
 
-// The run after the line, and the answer; none where the line asks for nothing.
-fn answer<'a>(heap: Global, run: Run, line: &'a [u8]) -> (Run, Result<Option<Answer>, Fault<'a>>) {
-    let command = match understood(heap, line) {
-        Ok(Some(command)) => command,
-        Ok(None) => return (run, Ok(None)),
-        Err(fault) => return (run, Err(fault)),
+// The answer to a line; none where it asks for nothing.
+fn answer<'a>(heap: Global, run: &mut Run, line: &'a [u8]) -> Result<Option<Answer>, Fault<'a>> {
+    let text = from_utf8(line).map_err(|_| Fault::NotText)?;
+    let Some(command) = read(heap, text)? else {
+        return Ok(None);
     };
-    let (run, answer) = run.obey(heap, &command);
-    match answer {
-        Ok(answer) => (run, Ok(Some(answer))),
-        Err(_) => (run, Err(Fault::NoMemory)),
-    }
-}
-
-fn understood<'a>(heap: Global, line: &'a [u8]) -> Result<Option<Command>, Fault<'a>> {
-    match from_utf8(line) {
-        Ok(text) => read(heap, text),
-        Err(_) => Err(Fault::NotText),
-    }
+    let answer = run.obey(heap, &command).map_err(|_| Fault::NoMemory)?;
+    Ok(Some(answer))
 }

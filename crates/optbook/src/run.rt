@@ -4,8 +4,8 @@ use crate::ledger::Ledger;
 
 mod steps;
 
-// The book at hand, and its ledger.
-#[derive(Drop)]
+// The book at hand, and its ledger; at first no book, and an empty ledger.
+#[derive(Default, Drop)]
 pub struct Run {
     pub desk: Desk,
     pub ledger: Ledger,

@@ -11,8 +11,6 @@ pub fn share(heap: Global, policy: &Chosen, lots: u32, queue: &[u32]) -> Result<
     ensures { IfOk result (λ a. Shared policy.now queue.now lots a) }
 {
     let mut shares = vec![in heap; 0; queue.len()]?;
-    match policy.share(queue, lots, &mut shares) {
-        Ok(()) => Ok(Answer::Shares(shares)),
-        Err(refusal) => Ok(Answer::NoQueue(refusal)),
-    }
+    let shared = policy.share(queue, lots, &mut shares);
+    Ok(Answer::Shares(shared.map(|()| shares)))
 }

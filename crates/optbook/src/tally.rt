@@ -1,6 +1,6 @@
 // What became of the lines of a script, counted for the summary.
 ghost use Rattle.std.specs.Prelude.{◌≡◌, ◌+◌, ◌-◌, ◌^◌, ◌<◌, ◌≤◌, Some};
-ghost use Rattle.optbook.specs.Tallies.{counted, Few, none, summary};
+ghost use Rattle.optbook.specs.Tallies.{counted, Few, summary};
 
 use std::fmt;
 
@@ -13,7 +13,7 @@ pub enum Outcome {
     NotUnderstood,
 }
 
-#[derive(Clone, Copy)]
+#[derive(Clone, Copy, Default)]
 pub struct Tally {
     pub calls: u64,
     pub taken: u64,
@@ -22,17 +22,6 @@ pub struct Tally {
 }
 
 impl Tally {
-    pub fn new() -> Tally
-        ensures { result ≡ none }
-    {
-        Tally {
-            calls: 0,
-            taken: 0,
-            refused: 0,
-            not_understood: 0,
-        }
-    }
-
     pub fn count(&mut self, outcome: Outcome)
         requires { Few self.old (2 ^ 64 - 1) }
         ensures { self.new ≡ counted self.old outcome }

@@ -1,23 +1,39 @@
 -- What sending a call to a book promises.
-use Rattle.std.specs.Prelude.{◌≡◌, ℕ, List, [], ◌∷◌, ◌++◌, ◌≢◌}
+use Rattle.std.specs.Prelude.{◌≡◌, ℕ, List, [], ◌∷◌, ◌++◌, Result, ◌≢◌}
 use Rattle.policy.specs.Fair.{Rule}
 use Rattle.rules.specs.declared.ladder.Ladder.{Ladder}
 use Rattle.rules.specs.declared.calls.Phase.{Phase}
 use Rattle.rules.specs.declared.calls.Call.{Call}
 use Rattle.rules.specs.declared.calls.Answer.{Answer}
-use Rattle.rules.specs.Machine.{Machine, made}
-use Rattle.rules.specs.Steps.{step}
+use Rattle.rules.specs.declared.calls.Answer.TheVariants.{WrongPhase}
+use Rattle.rules.specs.declared.calls.Call.TheVariants.{Cancel, Reduce, TakeLineDown, BringLineUp, NameSuccessor}
+use Rattle.rules.specs.declared.refusal.Refusal.{Refusal}
+use Rattle.rules.specs.Machine.{Rules, Machine, made}
+use Rattle.rules.specs.Steps.{Outcome, outcome, step}
 use Rattle.laws.specs.Runs.{run, after}
 use Rattle.laws.specs.Laws.{Lawful}
 use Rattle.book.specs.declared.phases.Book.{Book}
-use Rattle.book.specs.Model.{machine, rules_of, Gives, SamePolicies}
+use Rattle.book.specs.Model.{machine, rules_of, Gives, SamePolicies, said}
 use Rattle.replay.specs.declared.any.AnyBook.{AnyBook}
 use Rattle.replay.specs.Books.{machine_of, opening_of, session_of, rules_in}
 
+-- What the calls do that both phases offer; another call is none of them.
+abbrev pub step_in_either : Rules → Machine → Call → Outcome
+step_in_either R m (Cancel id number) = step R m (Cancel id number)
+step_in_either R m (Reduce id number lots) = step R m (Reduce id number lots)
+step_in_either R m (TakeLineDown id) = step R m (TakeLineDown id)
+step_in_either R m (BringLineUp id) = step R m (BringLineUp id)
+step_in_either R m (NameSuccessor id successor) = step R m (NameSuccessor id successor)
+step_in_either R m call = outcome WrongPhase m
+
+pub record AskedEither {P O S : Type 0} (opening : O → Rule) (session : S → Rule) (phase : Phase) (before : Book P O S) (call : Call) (answer : Result Answer Refusal) (after : Book P O S) : Type 0 where
+  pub gives : Gives (step_in_either (rules_of opening session before) (machine phase before.held) call) (said (λ a. a) answer) (machine phase after.held)
+  pub policies : SamePolicies before after
+
 -- A book asked a call in its phase answers as the machine's step does, and is left as the step leaves it; but for the
 -- one call that moves it on to the other phase, which is not asked.
-pub record Asked {P O S : Type 0} (opening : O → Rule) (session : S → Rule) (phase : Phase) (moves : Call) (before : Book P O S) (call : Call) (answer : Answer) (after : Book P O S) : Type 0 where
-  pub gives : (call ≢ moves) → Gives (step (rules_of opening session before) (machine phase before.held) call) answer (machine phase after.held)
+pub record Asked {P O S : Type 0} (opening : O → Rule) (session : S → Rule) (phase : Phase) (moves : Call) (before : Book P O S) (call : Call) (answer : Result Answer Refusal) (after : Book P O S) : Type 0 where
+  pub gives : (call ≢ moves) → Gives (step (rules_of opening session before) (machine phase before.held) call) (said (λ a. a) answer) (machine phase after.held)
   pub policies : SamePolicies before after
 
 -- A call does exactly the machine's step, and leaves the policies as they were.

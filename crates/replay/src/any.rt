@@ -1,7 +1,6 @@
 // A book in whichever phase, apart from its methods: a file of specs/ names it.
 use book::phases::{PreOpen, Session};
 
-mod answers;
 mod reads;
 mod sends;
 

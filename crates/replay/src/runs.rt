@@ -23,6 +23,7 @@ pub fn replay<O: Policy, S: Policy>(
     ensures { Replayed O.Policy.rule S.Policy.rule book calls.now answers.old answers.new result }
 {
     let mut book = book;
+    // By index: after a loop over an adapter of `answers.iter_mut()`, as a zip, nothing is known of the places.
     for i in 0..placed(calls, answers) {
         let (next, answer) = book.send(calls[i]);
         book = next;

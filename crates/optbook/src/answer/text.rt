@@ -1,6 +1,5 @@
 // How an answer is printed, and how it counts.
 ghost use Rattle.std.specs.Prelude.{◌≡◌, Some};
-ghost use Rattle.std.specs.Fmt.{WritesOnOk};
 ghost use Rattle.optbook.specs.Answers.{outcome_of, call_outcome, spaced_text, entered_text, tried_text, opened_text, call_text, answer_text};
 
 use super::Answer;
@@ -15,7 +14,7 @@ impl Answer {
         ensures { result ≡ outcome_of self.now }
     {
         match self {
-            Answer::NoQueue(_) => Outcome::Refused,
+            Answer::Shares(Err(_)) => Outcome::Refused,
             Answer::Called(answer) => outcome(*answer),
             _ => Outcome::Taken,
         }
@@ -37,87 +36,87 @@ impl fmt::Display for Answer {
 
     fn fmt<W: fmt::Write>(&self, f: &mut fmt::Formatter<W>) -> fmt::Result {
         match self {
-            Answer::Shares(shares) => {
-                write!(f, "shares")?;
-                spaced(shares, f)
-            }
-            Answer::NoQueue(refusal) => {
-                let number = refusal.number();
-                write!(f, "refused {number}")
-            }
+            Answer::Shares(Ok(shares)) => write!(f, "shares{}", Word(&shares[..])),
+            Answer::Shares(Err(refusal)) => write!(f, "refused {}", refusal.number()),
             Answer::Made => write!(f, "made"),
             Answer::Shown(page) => write!(f, "{page}"),
-            Answer::Called(answer) => called(*answer, f),
+            Answer::Called(answer) => write!(f, "{}", Word(*answer)),
         }
     }
 }
 
-// The numbers, a blank before each.
-fn spaced<W: fmt::Write>(numbers: &[u32], f: &mut fmt::Formatter<W>) -> fmt::Result
-    ensures { WritesOnOk W.Write.write_str_gives f.old result (spaced_text numbers.now) f.new }
-{
-    for n in numbers {
-        write!(f, " {n}")?;
+// Numbers, a blank before each.
+impl fmt::Display for Word<&[u32]> {
+    ghost output = { λ w. Some (spaced_text w.0.now) };
+
+    fn fmt<W: fmt::Write>(&self, f: &mut fmt::Formatter<W>) -> fmt::Result {
+        for n in self.0 {
+            write!(f, " {n}")?;
+        }
+        Ok(())
     }
-    Ok(())
 }
 
 // What a book answers a call.
-fn called<W: fmt::Write>(answer: calls::Answer, f: &mut fmt::Formatter<W>) -> fmt::Result
-    ensures { WritesOnOk W.Write.write_str_gives f.old result (call_text answer) f.new }
-{
-    match answer {
-        calls::Answer::Entered(e) => entered(e, f),
-        calls::Answer::Cancelled(lots) => write!(f, "cancelled {lots}"),
-        calls::Answer::Reduced(lots) => write!(f, "open {lots}"),
-        calls::Answer::Dropped((bids, offers)) => write!(f, "withdrawn {bids} {offers}"),
-        calls::Answer::Done => write!(f, "done"),
-        calls::Answer::Tried(t) => tried(t, f),
-        calls::Answer::Opened(o) => opened(o, f),
-        calls::Answer::Closed((bids, offers)) => write!(f, "closed withdrawn {bids} {offers}"),
-        calls::Answer::Refused(refusal) => {
-            let number = refusal.number();
-            write!(f, "refused {number}")
+impl fmt::Display for Word<calls::Answer> {
+    ghost output = { λ w. Some (call_text w.0) };
+
+    fn fmt<W: fmt::Write>(&self, f: &mut fmt::Formatter<W>) -> fmt::Result {
+        match self.0 {
+            calls::Answer::Entered(e) => write!(f, "{}", Word(e)),
+            calls::Answer::Cancelled(lots) => write!(f, "cancelled {lots}"),
+            calls::Answer::Reduced(lots) => write!(f, "open {lots}"),
+            calls::Answer::Dropped((bids, offers)) => write!(f, "withdrawn {bids} {offers}"),
+            calls::Answer::Done => write!(f, "done"),
+            calls::Answer::Tried(t) => write!(f, "{}", Word(t)),
+            calls::Answer::Opened(o) => write!(f, "{}", Word(o)),
+            calls::Answer::Closed((bids, offers)) => write!(f, "closed withdrawn {bids} {offers}"),
+            calls::Answer::Refused(refusal) => write!(f, "refused {}", refusal.number()),
+            calls::Answer::WrongPhase => write!(f, "wrong phase"),
         }
-        calls::Answer::WrongPhase => write!(f, "wrong phase"),
     }
 }
 
-fn entered<W: fmt::Write>(e: EntryAnswer, f: &mut fmt::Formatter<W>) -> fmt::Result
-    ensures { WritesOnOk W.Write.write_str_gives f.old result (entered_text e) f.new }
-{
-    let EntryAnswer {
-        number,
-        traded,
-        withdrawn,
-        open,
-    } = e;
-    write!(
-        f,
-        "entered {number} traded {traded} withdrawn {withdrawn} open {open}"
-    )
+impl fmt::Display for Word<EntryAnswer> {
+    ghost output = { λ w. Some (entered_text w.0) };
+
+    fn fmt<W: fmt::Write>(&self, f: &mut fmt::Formatter<W>) -> fmt::Result {
+        let EntryAnswer {
+            number,
+            traded,
+            withdrawn,
+            open,
+        } = self.0;
+        write!(
+            f,
+            "entered {number} traded {traded} withdrawn {withdrawn} open {open}"
+        )
+    }
 }
 
-fn tried<W: fmt::Write>(t: TrialAnswer, f: &mut fmt::Formatter<W>) -> fmt::Result
-    ensures { WritesOnOk W.Write.write_str_gives f.old result (tried_text t) f.new }
-{
-    let price = Word(t.price);
-    let volume = t.volume;
-    write!(f, "price {price} volume {volume}")
+impl fmt::Display for Word<TrialAnswer> {
+    ghost output = { λ w. Some (tried_text w.0) };
+
+    fn fmt<W: fmt::Write>(&self, f: &mut fmt::Formatter<W>) -> fmt::Result {
+        let TrialAnswer { price, volume } = self.0;
+        write!(f, "price {} volume {volume}", Word(price))
+    }
 }
 
-fn opened<W: fmt::Write>(o: OpeningAnswer, f: &mut fmt::Formatter<W>) -> fmt::Result
-    ensures { WritesOnOk W.Write.write_str_gives f.old result (opened_text o) f.new }
-{
-    let OpeningAnswer {
-        volume,
-        total,
-        withdrawn,
-        price,
-    } = o;
-    let price = Word(price);
-    write!(
-        f,
-        "opened volume {volume} total {total} withdrawn {withdrawn} price {price}"
-    )
+impl fmt::Display for Word<OpeningAnswer> {
+    ghost output = { λ w. Some (opened_text w.0) };
+
+    fn fmt<W: fmt::Write>(&self, f: &mut fmt::Formatter<W>) -> fmt::Result {
+        let OpeningAnswer {
+            volume,
+            total,
+            withdrawn,
+            price,
+        } = self.0;
+        write!(
+            f,
+            "opened volume {volume} total {total} withdrawn {withdrawn} price {}",
+            Word(price)
+        )
+    }
 }

@@ -1,6 +1,6 @@
 // How a ledger is kept.
 ghost use Rattle.std.specs.Prelude.{◌≡◌, Some};
-ghost use Rattle.optbook.specs.Ledgers.{blank, volume_of, accepted_by, withdrawn_by, noted, line_lots, traded_lots, open_lots, balance_text};
+ghost use Rattle.optbook.specs.Ledgers.{volume_of, accepted_by, withdrawn_by, noted, line_lots, traded_lots, open_lots, balance_text};
 
 use super::{Balance, Ledger};
 use rules::calls::{Answer, Call};
@@ -25,43 +25,32 @@ fn withdrawn(call: Call, answer: Answer) -> u64
     ensures { result ≡ withdrawn_by call answer }
 {
     match (answer, call) {
-        (Answer::Entered(e), _) => e.withdrawn as u64,
-        (Answer::Cancelled(lots), _) => lots as u64,
-        (Answer::Reduced(_), Call::Reduce { lots, .. }) => lots as u64,
-        (Answer::Dropped((bids, offers)), _) => bids as u64 + offers as u64,
-        (Answer::Closed((bids, offers)), _) => bids as u64 + offers as u64,
-        (Answer::Opened(o), _) => o.withdrawn as u64,
+        (Answer::Entered(e), _) => u64::from(e.withdrawn),
+        (Answer::Cancelled(lots), _) => u64::from(lots),
+        (Answer::Reduced(_), Call::Reduce { lots, .. }) => u64::from(lots),
+        (Answer::Dropped((bids, offers)) | Answer::Closed((bids, offers)), _) => u64::from(bids)
+            + u64::from(offers),
+        (Answer::Opened(o), _) => u64::from(o.withdrawn),
         _ => 0,
     }
 }
 
 // The lots that a call brought into the book's account.
-fn accepted(call: Call, answer: Answer) -> u32
+fn accepted(call: Call, answer: Answer) -> u64
     ensures { result ≡ accepted_by call answer }
 {
     match answer {
-        Answer::Entered(_) => volume(call),
+        Answer::Entered(_) => u64::from(volume(call)),
         _ => 0,
     }
 }
 
 impl Ledger {
-    pub fn new() -> Ledger
-        ensures { result ≡ blank }
-    {
-        Ledger {
-            accepted: 0,
-            withdrawn: 0,
-            bought: 0,
-            sold: 0,
-        }
-    }
-
     // The tape is the one that the call wrote.
     pub fn note(&mut self, call: Call, answer: Answer, tape: &[TapeLine])
         ensures { self.new ≡ noted self.old call answer tape.now }
     {
-        self.accepted = self.accepted.saturating_add(accepted(call, answer) as u64);
+        self.accepted = self.accepted.saturating_add(accepted(call, answer));
         self.withdrawn = self.withdrawn.saturating_add(withdrawn(call, answer));
         self.bought = traded(self.bought, tape, Side::Bid);
         self.sold = traded(self.sold, tape, Side::Offer);
@@ -72,8 +61,8 @@ impl Ledger {
 fn line_lots(line: TapeLine, side: Side) -> u64
     ensures { result ≡ line_lots side line }
 {
-    if side.is(line.side) {
-        line.lots as u64
+    if line.side == side {
+        u64::from(line.lots)
     } else {
         0
     }
@@ -83,22 +72,19 @@ fn line_lots(line: TapeLine, side: Side) -> u64
 fn traded(count: u64, tape: &[TapeLine], side: Side) -> u64
     ensures { result ≡ traded_lots side count tape.now }
 {
-    let mut total = count;
-    for line in tape {
-        total = total.saturating_add(line_lots(*line, side));
-    }
-    total
+    tape.iter()
+        .map(|line| line_lots(*line, side))
+        .fold(count, u64::saturating_add)
 }
 
 // The lots that the orders still hold.
 pub fn open_lots(orders: &[Order]) -> u64
     ensures { result ≡ open_lots 0 orders.now }
 {
-    let mut total = 0u64;
-    for order in orders {
-        total = total.saturating_add(order.lots as u64);
-    }
-    total
+    orders
+        .iter()
+        .map(|order| u64::from(order.lots))
+        .fold(0, u64::saturating_add)
 }
 
 impl fmt::Display for Balance {

@@ -1,7 +1,6 @@
 // How a page is printed: a line of the book, and one for each open order.
-ghost use Rattle.std.specs.Fmt.{WritesOnOk};
 ghost use Rattle.std.specs.Prelude.{Some};
-ghost use Rattle.optbook.specs.Pages.{order_text, orders_text, page_text};
+ghost use Rattle.optbook.specs.Pages.{order_word, orders_text, page_text};
 
 use super::Page;
 use crate::word::Word;
@@ -15,37 +14,41 @@ impl fmt::Display for Page {
         let phase = Word(self.phase);
         let hours = Word(self.hours);
         let today = self.today;
-        write!(f, "phase {phase} session {hours} day {today}")?;
-        listed(&self.orders, f)
+        let orders = Word(&self.orders[..]);
+        write!(f, "phase {phase} session {hours} day {today}{orders}")
     }
 }
 
 // Each order on a line of its own.
-fn listed<W: fmt::Write>(orders: &[Order], f: &mut fmt::Formatter<W>) -> fmt::Result
-    ensures { WritesOnOk W.Write.write_str_gives f.old result (orders_text orders.now) f.new }
-{
-    for order in orders {
-        line(*order, f)?;
+impl fmt::Display for Word<&[Order]> {
+    ghost output = { λ w. Some (orders_text w.0.now) };
+
+    fn fmt<W: fmt::Write>(&self, f: &mut fmt::Formatter<W>) -> fmt::Result {
+        for order in self.0 {
+            write!(f, "\n{}", Word(*order))?;
+        }
+        Ok(())
     }
-    Ok(())
 }
 
-fn line<W: fmt::Write>(order: Order, f: &mut fmt::Formatter<W>) -> fmt::Result
-    ensures { WritesOnOk W.Write.write_str_gives f.old result (order_text order) f.new }
-{
-    let Order {
-        number,
-        id,
-        side,
-        kind,
-        lots,
-        lifetime,
-    } = order;
-    let side = Word(side);
-    let price = Word(kind);
-    let lifetime = Word(lifetime);
-    write!(
-        f,
-        "\norder {number} id {id} {side} {price} lots {lots} {lifetime}"
-    )
+impl fmt::Display for Word<Order> {
+    ghost output = { λ w. Some (order_word w.0) };
+
+    fn fmt<W: fmt::Write>(&self, f: &mut fmt::Formatter<W>) -> fmt::Result {
+        let Order {
+            number,
+            id,
+            side,
+            kind,
+            lots,
+            lifetime,
+        } = self.0;
+        let side = Word(side);
+        let price = Word(kind);
+        let lifetime = Word(lifetime);
+        write!(
+            f,
+            "order {number} id {id} {side} {price} lots {lots} {lifetime}"
+        )
+    }
 }

@@ -1,6 +1,6 @@
 // What a run does with a command.
 ghost use Rattle.std.specs.Prelude.{◌≡◌};
-ghost use Rattle.optbook.specs.Runs.{Obeyed, Done, Shows, started, Stands, run_tape};
+ghost use Rattle.optbook.specs.Runs.{Obeyed, Done, Shows, balance_of, run_tape};
 
 use super::Run;
 use crate::answer::Answer;
@@ -12,62 +12,45 @@ use rules::calls::Call;
 use rules::tape::TapeLine;
 use script::command::Command;
 use std::alloc::{AllocError, Global};
+use std::mem;
 
 impl Run {
-    // No book has been made.
-    pub fn new() -> Run
-        ensures { result ≡ started }
-    {
-        Run {
-            desk: Desk::Empty,
-            ledger: Ledger::new(),
-        }
-    }
-
     // Only memory can keep a command from its answer.
-    pub fn obey(self, heap: Global, command: &Command) -> (Run, Result<Answer, AllocError>)
-        ensures { Obeyed self command.now result.1 result.0 }
+    pub fn obey(&mut self, heap: Global, command: &Command) -> Result<Answer, AllocError>
+        ensures { Obeyed self.old command.now result self.new }
     {
         match command {
             Command::Share {
                 policy,
                 lots,
                 queue,
-            } => (self, share(heap, policy, *lots, queue)),
+            } => share(heap, policy, *lots, queue),
             Command::Book(making) => {
-                let run = Run {
+                *self = Run {
                     desk: Desk::made(*making),
-                    ledger: Ledger::new(),
+                    ledger: Ledger::default(),
                 };
-                (run, Ok(Answer::Made))
+                Ok(Answer::Made)
             }
-            Command::Call(call) => {
-                let (run, answer) = self.send(*call);
-                (run, Ok(Answer::Called(answer)))
-            }
-            Command::Show => {
-                let shown = self.show(heap);
-                (self, shown)
-            }
+            Command::Call(call) => Ok(Answer::Called(self.send(*call))),
+            Command::Show => self.show(heap),
         }
     }
 
-    fn send(self, call: Call) -> (Run, calls::Answer)
-        ensures { Done self call result.1 result.0 }
+    fn send(&mut self, call: Call) -> calls::Answer
+        ensures { Done self.old call result self.new }
     {
-        let Run { desk, mut ledger } = self;
-        let (desk, answer) = desk.send(call);
-        ledger.note(call, answer, desk.written(answer));
-        (Run { desk, ledger }, answer)
+        let (desk, answer) = mem::take(&mut self.desk).send(call);
+        self.ledger.note(call, answer, desk.written(answer));
+        self.desk = desk;
+        answer
     }
 
     fn show(&self, heap: Global) -> Result<Answer, AllocError>
         ensures { Shows self.now result }
     {
-        match self.desk.page(heap)? {
-            Some(page) => Ok(Answer::Shown(page)),
-            None => Ok(Answer::Called(calls::Answer::WrongPhase)),
-        }
+        let page = self.desk.page(heap)?;
+        Ok(page.map_or(Answer::Called(calls::Answer::WrongPhase), Answer::Shown))
     }
 
     // The tape that the call behind an answer wrote.
@@ -82,14 +65,11 @@ impl Run {
 
     // What became of the lots of the last book; none where no book was made.
     pub fn balance(&self) -> Option<Balance>
-        ensures { Stands self.now result }
+        ensures { result ≡ balance_of self.now }
     {
-        match self.desk {
-            Desk::Empty => None,
-            Desk::Waiting(_) | Desk::Trading(_) => Some(Balance {
-                ledger: self.ledger,
-                open: open_lots(self.desk.orders()),
-            }),
-        }
+        self.desk.book.as_ref().map(|book| Balance {
+            ledger: self.ledger,
+            open: open_lots(book.orders()),
+        })
     }
 }

@@ -1,4 +1,5 @@
-// What is read of a book in whichever phase.
+// What is read of a book in whichever phase. Each read matches by itself: the arms hold books of two types, and one
+// place for both would have to hand out a `dyn` value.
 ghost use Rattle.std.specs.Prelude.{◌≡◌};
 ghost use Rattle.replay.specs.Books.{machine_of, opening_of, session_of};
 

@@ -1,45 +1,60 @@
 // The calls of a book in whichever phase.
 ghost use Rattle.rules.specs.declared.calls.Phase.TheVariants.{PreOpen, Open};
 ghost use Rattle.rules.specs.declared.calls.Call.TheVariants.{OpenBook, CloseBook};
-ghost use Rattle.replay.specs.Sends.{Asked, Stepped, Sent};
+ghost use Rattle.replay.specs.Sends.{Asked, AskedEither, Stepped, Sent};
 
 use super::AnyBook;
-use super::answers::{cancelled, done, dropped, entered, reduced, tried};
-use book::phases::{PreOpen, Session};
+use book::phases::{Book, PreOpen, Session};
+use book::stage::Stage;
 use policy::Policy;
 use rules::calls::{Answer, Call};
+use rules::refusal::Refusal;
 
-// A call of a book before its opening, which it stays. An opening is not asked here; its arm only completes the match.
-fn ask_waiting<O: Policy, S: Policy>(book: &mut PreOpen<O, S>, call: Call) -> Answer
-    ensures { Asked O.Policy.rule S.Policy.rule PreOpen OpenBook book.old call result book.new }
+// A call that both phases offer; another one is none of its calls.
+fn ask_either<P: Stage, O: Policy, S: Policy>(
+    book: &mut Book<P, O, S>,
+    call: Call,
+) -> Result<Answer, Refusal>
+    ensures { AskedEither O.Policy.rule S.Policy.rule P.Stage.phase book.old call result book.new }
 {
     match call {
-        Call::EnterLimit(entry) => entered(book.limit(entry)),
-        Call::EnterOnOpen(entry) => entered(book.on_open(entry)),
-        Call::Cancel { id, number } => cancelled(book.cancel(id, number)),
-        Call::Reduce { id, number, lots } => reduced(book.reduce(id, number, lots)),
-        Call::TakeLineDown(id) => dropped(book.line_down(id)),
-        Call::BringLineUp(id) => done(book.line_up(id)),
-        Call::NameSuccessor { id, successor } => done(book.successor(id, successor)),
-        Call::Try(trial) => tried(book.trial(trial)),
-        Call::EnterMarket(_) | Call::OpenBook | Call::CloseBook => Answer::WrongPhase,
+        Call::Cancel { id, number } => book.cancel(id, number).map(Answer::Cancelled),
+        Call::Reduce { id, number, lots } => book.reduce(id, number, lots).map(Answer::Reduced),
+        Call::TakeLineDown(id) => book.line_down(id).map(Answer::Dropped),
+        Call::BringLineUp(id) => book.line_up(id).map(|()| Answer::Done),
+        Call::NameSuccessor { id, successor } => book
+            .successor(id, successor)
+            .map(|()| Answer::Done),
+        _ => Ok(Answer::WrongPhase),
     }
 }
 
-// A call of a book in session, which it stays. A close is not asked here; its arm only completes the match.
-fn ask_trading<O: Policy, S: Policy>(book: &mut Session<O, S>, call: Call) -> Answer
+// A call of a book before its opening, which it stays. An opening is not asked here.
+fn ask_waiting<O: Policy, S: Policy>(
+    book: &mut PreOpen<O, S>,
+    call: Call,
+) -> Result<Answer, Refusal>
+    ensures { Asked O.Policy.rule S.Policy.rule PreOpen OpenBook book.old call result book.new }
+{
+    match call {
+        Call::EnterLimit(entry) => book.limit(entry).map(Answer::Entered),
+        Call::EnterOnOpen(entry) => book.on_open(entry).map(Answer::Entered),
+        Call::Try(trial) => book.trial(trial).map(Answer::Tried),
+        call => ask_either(book, call),
+    }
+}
+
+// A call of a book in session, which it stays. A close is not asked here.
+fn ask_trading<O: Policy, S: Policy>(
+    book: &mut Session<O, S>,
+    call: Call,
+) -> Result<Answer, Refusal>
     ensures { Asked O.Policy.rule S.Policy.rule Open CloseBook book.old call result book.new }
 {
     match call {
-        Call::EnterLimit(entry) => entered(book.limit(entry)),
-        Call::EnterMarket(entry) => entered(book.market(entry)),
-        Call::Cancel { id, number } => cancelled(book.cancel(id, number)),
-        Call::Reduce { id, number, lots } => reduced(book.reduce(id, number, lots)),
-        Call::TakeLineDown(id) => dropped(book.line_down(id)),
-        Call::BringLineUp(id) => done(book.line_up(id)),
-        Call::NameSuccessor { id, successor } => done(book.successor(id, successor)),
-        Call::EnterOnOpen(_) | Call::Try(_) | Call::OpenBook | Call::CloseBook =>
-            Answer::WrongPhase,
+        Call::EnterLimit(entry) => book.limit(entry).map(Answer::Entered),
+        Call::EnterMarket(entry) => book.market(entry).map(Answer::Entered),
+        call => ask_either(book, call),
     }
 }
 
@@ -51,6 +66,7 @@ impl<O: Policy, S: Policy> AnyBook<O, S> {
         self.step(call)
     }
 
+    // The step alone; `send` adds what follows from it for a run of calls.
     fn step(self, call: Call) -> (AnyBook<O, S>, Answer)
         ensures { Stepped O.Policy.rule S.Policy.rule self call result.1 result.0 }
     {
@@ -61,7 +77,7 @@ impl<O: Policy, S: Policy> AnyBook<O, S> {
                     (AnyBook::Trading(book), Answer::Opened(answer))
                 }
                 call => {
-                    let answer = ask_waiting(&mut book, call);
+                    let answer = ask_waiting(&mut book, call).unwrap_or_else(Answer::Refused);
                     (AnyBook::Waiting(book), answer)
                 }
             },
@@ -71,7 +87,7 @@ impl<O: Policy, S: Policy> AnyBook<O, S> {
                     (AnyBook::Waiting(book), Answer::Closed(lots))
                 }
                 call => {
-                    let answer = ask_trading(&mut book, call);
+                    let answer = ask_trading(&mut book, call).unwrap_or_else(Answer::Refused);
                     (AnyBook::Trading(book), answer)
                 }
             },

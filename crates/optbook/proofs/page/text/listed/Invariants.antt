@@ -1,7 +1,0 @@
-use Rattle.std.proofs.Common.{take}
-use Rattle.std.specs.Fmt.{IsPlainFormatter, HasWritten}
-use Rattle.optbook.specs.Pages.{orders_text}
-use Rattle.optbook.proofs.page.text.listed.Given as goal
-
-abbrev pub invariant-loop-order : goal.invariant-loop-order
-invariant-loop-order g l = IsPlainFormatter l.initial.f → HasWritten g.W.Write.write_str_gives l.initial.f (orders_text (take l.order-index l.orders)) l.f

@@ -52,11 +52,9 @@ fn ended<'a>(mut words: SplitAsciiWhitespace<'a>) -> Result<(), Fault<'a>> {
 fn share<'a>(heap: Global, mut words: SplitAsciiWhitespace<'a>) -> Result<Command, Fault<'a>> {
     let policy = policy(heap, next(&mut words, Part::Policy)?)?;
     let lots = next_number(&mut words, Part::Lots)?;
-    let mut queue = Vec::new(heap);
-    // No `collect`: it would keep the faults of words as items.
-    for word in words {
-        queue.push(counted(Part::Place, word)?)?;
-    }
+    let queue = words
+        .map(|word| counted(Part::Place, word))
+        .try_collect(heap)?;
     Ok(Command::Share {
         policy,
         lots,

@@ -3,23 +3,16 @@ use Rattle.std.proofs.Common.{◌≡◌, ℕ, ◌≤◌, true, List, [], map, le
 use Rattle.std.proofs.lemmas.Bool.{cond_both}
 use Rattle.std.proofs.lemmas.Bool.Decides.{nat_tests}
 use Rattle.policy.specs.Fair.{Rule, Fairly}
-use Rattle.rules.specs.declared.order.Side.{Side}
-use Rattle.rules.specs.declared.order.Side.TheVariants.{Bid, Offer}
 use Rattle.rules.specs.declared.order.Kind.TheVariants.{Limit}
 use Rattle.rules.specs.declared.order.Order.{Order}
 use Rattle.rules.specs.declared.incoming.Incoming.{Incoming}
 use Rattle.rules.specs.declared.tape.Terms.TheVariants.{Entry}
 use Rattle.rules.specs.Sides.{other}
-use Rattle.rules.specs.Orders.{prices, Book}
+use Rattle.rules.specs.Orders.{Book}
 use Rattle.rules.specs.Trades.{Step, ranked}
 use Rattle.rules.specs.Session.{accepts, reach, enough, met}
 use Rattle.rules.proofs.Served.{serve_length}
 use Rattle.matching.specs.Entries.{allowed, room_for}
-use Rattle.matching.proofs.Stages.{all_orders}
-
-pub prices_few : (s : Side) (os : List Order) → length (prices s os) ≤ length os
-prices_few Bid os = omega (arith, all_orders os)
-prices_few Offer os = omega (arith, all_orders os)
 
 -- room stays where orders go
 pub room_stays : (limit : Option ℕ) (os ps : List Order) → length ps ≤ length os → room_for limit os ≡ true → room_for limit ps ≡ true

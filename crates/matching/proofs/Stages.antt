@@ -20,7 +20,10 @@ use Rattle.rules.proofs.Prices.{clears}
 use Rattle.rules.proofs.Openings.{opening_keeps}
 use Rattle.rules.proofs.Filled.{fill_book}
 use Rattle.rules.proofs.Served.{serve_book, serve_other}
+use Rattle.table.specs.declared.table.Table.{Table}
 use Rattle.table.specs.Fits.{price_fits}
+use Rattle.table.specs.Tables.{open_orders}
+use Rattle.table.proofs.Fit.{table_book}
 use Rattle.matching.proofs.Chains.{all_kept}
 use Rattle.matching.proofs.Ranks.{ranked_in, in_ranked, ranked_sorted, ranked_is}
 use Rattle.matching.proofs.Counts.{many, At, Limits, many_level, many_prices, many_fill, fill_lines}
@@ -70,6 +73,11 @@ all_many (o ∷ os) = omega (arith, one_of o.side o.kind, all_many os)
 
 pub all_orders : (os : List Order) → (length (prices Bid os) + length (prices Offer os)) + (length (level Bid OnOpen os) + length (level Offer OnOpen os)) ≡ length os
 all_orders os = omega (arith, all_many os, many_prices Bid os, many_prices Offer os, many_level Bid OnOpen os, many_level Offer OnOpen os)
+
+-- a side has no more prices than the table has places
+pub prices_within : (s : Side) (t : Table) → length (prices s (open_orders t)) ≤ 256
+prices_within Bid t = omega (arith, all_orders (open_orders t), (table_book t).few)
+prices_within Offer t = omega (arith, all_orders (open_orders t), (table_book t).few)
 
 one_side : (s : Side) (b : Bool) → cond (is Bid s && b) 1 0 + cond (is Offer s && b) 1 0 ≤ 1
 one_side Bid true = omega arith

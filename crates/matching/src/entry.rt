@@ -73,6 +73,7 @@ fn settled(e: Incoming, left: u32) -> EntryAnswer
 impl Floor {
     // Counts the lots within reach of an entry; where they meet its condition, trades with them, and answers the lots
     // left.
+    #[tactic(auto, using(crate::proofs::Stages::prices_within))]
     fn trade_allowed<P: Policy>(&mut self, policy: &P, e: Incoming) -> Option<u32>
         ensures exact { step_of self.new ≡ allowed (P.Policy.rule policy.now) e (open_orders self.old.table) }
         ensures left { result ≡ left_of e (open_orders self.old.table) }

@@ -61,6 +61,7 @@ fn withdraw_on_open(table: &mut Table) -> (u32, u32)
 
 impl Floor {
     // Stage one: the volume's lots of limit bids and of limit offers trade at the price, the better price first.
+    #[tactic(auto, using(crate::proofs::Stages::prices_within))]
     fn trade_limits<P: Policy>(&mut self, policy: &P, lots: u32, price: u32)
         requires { tape_lines self.old.tape ≡ [] }
         ensures exact { step_of self.new ≡ stage_one (P.Policy.rule policy.now) price lots (step_of self.old) }

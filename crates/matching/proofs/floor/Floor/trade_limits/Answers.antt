@@ -1,24 +1,10 @@
 use Rattle.std.proofs.Common.{◌≤◌, length, ap, arith}
 use Rattle.rules.specs.declared.order.Side.TheVariants.{Bid}
 use Rattle.rules.specs.Orders.{prices}
-use Rattle.table.specs.Tables.{open_orders}
 use Rattle.table.proofs.Fit.{table_book}
 use Rattle.matching.specs.Steps.{step_of}
-use Rattle.matching.proofs.Stages.{all_orders, bids_few, two_walks, one_lines}
+use Rattle.matching.proofs.Stages.{two_walks, one_lines}
 use Rattle.matching.proofs.floor.Floor.trade_limits.Goals as goal
-
-pub walk-requires : goal.walk-requires
-walk-requires g c =
-    let t = c.args.self.now.table in
-    omega (arith, ap length c.requires, all_orders (open_orders t), (table_book t).few)
-
-pub walk-requires-2 : goal.walk-requires-2
-walk-requires-2 g c =
-    let t = c.args.self.now.table in
-    let m = step_of c.args.self.now in
-    let n = step_of c.walk.new.self in
-    let few = bids_few (g.P.Policy.rule c.args.policy.now) c.args.price c.args.lots m n c.walk.ensures.exact in
-    omega (arith, few, c.walk.ensures.lines, ap length c.requires, all_orders (open_orders t), (table_book t).few)
 
 pub returns : goal.returns
 returns g c =

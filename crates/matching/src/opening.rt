@@ -28,8 +28,20 @@ use table::tape::Tape;
 fn lesser(table: &Table, kind: Kind) -> u32
     ensures { result ≡ lesser_of kind (open_orders table.now) }
 {
-    let bids = lots_at(table, Level { side: Side::Bid, kind });
-    bids.min(lots_at(table, Level { side: Side::Offer, kind }))
+    let bids = lots_at(
+        table,
+        Level {
+            side: Side::Bid,
+            kind,
+        },
+    );
+    bids.min(lots_at(
+        table,
+        Level {
+            side: Side::Offer,
+            kind,
+        },
+    ))
 }
 
 // Whether a line says that lots are bought.
@@ -87,8 +99,24 @@ impl Floor {
         ensures lines { length (tape_lines self.new.tape) ≤ length (tape_lines self.old.tape) + (length (level Bid kind (open_orders self.old.table)) + length (level Offer kind (open_orders self.old.table))) }
     {
         let lots = lesser(&self.table, kind);
-        self.trade_level(policy, price, Level { side: Side::Bid, kind }, lots);
-        self.trade_level(policy, price, Level { side: Side::Offer, kind }, lots);
+        self.trade_level(
+            policy,
+            price,
+            Level {
+                side: Side::Bid,
+                kind,
+            },
+            lots,
+        );
+        self.trade_level(
+            policy,
+            price,
+            Level {
+                side: Side::Offer,
+                kind,
+            },
+            lots,
+        );
     }
 
     // Stage two: the On-Open orders trade with each other, and what is left of them becomes limit orders at the price.

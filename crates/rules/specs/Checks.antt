@@ -1,5 +1,5 @@
 -- For each call the checks it must pass, in order: the first that fails gives the refusal.
-use Rattle.std.specs.Prelude.{ℕ, ◌-◌, Bool, true, false, cond, not, ◌||◌, List, [], ◌∷◌, length, find, Some, None, Option, ◌==◌, nat_le, nat_lt}
+use Rattle.std.specs.Prelude.{ℕ, ◌-◌, Bool, true, false, not, ◌||◌, List, [], ◌∷◌, length, find, Some, None, Option, ◌==◌, nat_le, nat_lt}
 use Rattle.rules.specs.declared.order.Order.{Order}
 use Rattle.rules.specs.declared.calls.Phase.{Phase}
 use Rattle.rules.specs.declared.calls.Phase.TheVariants.{PreOpen, Open}

@@ -1,7 +1,7 @@
-// What the rules ask of a side, a kind and an order.
+// What the rules ask of a side and an order.
 ghost use Rattle.std.specs.Prelude.{◌≡◌};
-ghost use Rattle.rules.specs.Sides.{is, other, better_than, as_good_as};
-ghost use Rattle.rules.specs.Orders.{same, at, limit_of};
+ghost use Rattle.rules.specs.Sides.{other, better_than, as_good_as};
+ghost use Rattle.rules.specs.Orders.{at, limit_of};
 ghost use Rattle.rules.specs.Trades.{less};
 ghost use Rattle.rules.specs.Opening.{turn};
 ghost use Rattle.rules.specs.Lines.{drops, passed};
@@ -11,15 +11,6 @@ use super::{Kind, Level, Lifetime, Order, Side};
 use crate::calls::Hours;
 
 impl Side {
-    pub fn is(self, side: Side) -> bool
-        ensures { result ≡ is self side }
-    {
-        match (self, side) {
-            (Side::Bid, Side::Bid) | (Side::Offer, Side::Offer) => true,
-            _ => false,
-        }
-    }
-
     pub fn other(self) -> Side
         ensures { result ≡ other self }
     {
@@ -46,18 +37,6 @@ impl Side {
         match self {
             Side::Bid => q <= x,
             Side::Offer => x <= q,
-        }
-    }
-}
-
-impl Kind {
-    pub fn is(self, kind: Kind) -> bool
-        ensures { result ≡ same self kind }
-    {
-        match (self, kind) {
-            (Kind::Limit(x), Kind::Limit(y)) => x == y,
-            (Kind::OnOpen, Kind::OnOpen) => true,
-            _ => false,
         }
     }
 }

@@ -28,20 +28,15 @@ use table::tape::Tape;
 fn lesser(table: &Table, kind: Kind) -> u32
     ensures { result ≡ lesser_of kind (open_orders table.now) }
 {
-    let bids = lots_at(
-        table,
-        Level {
-            side: Side::Bid,
-            kind,
-        },
-    );
-    bids.min(lots_at(
-        table,
-        Level {
-            side: Side::Offer,
-            kind,
-        },
-    ))
+    let bids = Level {
+        side: Side::Bid,
+        kind,
+    };
+    let offers = Level {
+        side: Side::Offer,
+        kind,
+    };
+    lots_at(table, bids).min(lots_at(table, offers))
 }
 
 // Whether a line says that lots are bought.
@@ -98,25 +93,17 @@ impl Floor {
         ensures exact { step_of self.new ≡ crossed (P.Policy.rule policy.now) price kind (step_of self.old) }
         ensures lines { length (tape_lines self.new.tape) ≤ length (tape_lines self.old.tape) + (length (level Bid kind (open_orders self.old.table)) + length (level Offer kind (open_orders self.old.table))) }
     {
+        let bids = Level {
+            side: Side::Bid,
+            kind,
+        };
+        let offers = Level {
+            side: Side::Offer,
+            kind,
+        };
         let lots = lesser(&self.table, kind);
-        self.trade_level(
-            policy,
-            price,
-            Level {
-                side: Side::Bid,
-                kind,
-            },
-            lots,
-        );
-        self.trade_level(
-            policy,
-            price,
-            Level {
-                side: Side::Offer,
-                kind,
-            },
-            lots,
-        );
+        self.trade_level(policy, price, bids, lots);
+        self.trade_level(policy, price, offers, lots);
     }
 
     // Stage two: the On-Open orders trade with each other, and what is left of them becomes limit orders at the price.

@@ -40,15 +40,8 @@ impl Floor {
         ensures written { tape_lines self.new.tape ≡ (fill (P.Policy.rule policy.now) (Opening x) side lots (Limit x) (step_of self.old)).tape ++ line number (other side) x result }
         ensures traded { result ≡ min lots (held_by (at side (Limit x)) (open_orders self.old.table)) }
     {
-        let traded = self.trade_level(
-            policy,
-            x,
-            Level {
-                side,
-                kind: Kind::Limit(x),
-            },
-            lots,
-        );
+        let kind = Kind::Limit(x);
+        let traded = self.trade_level(policy, x, Level { side, kind }, lots);
         note_entry(&mut self.tape, number, side, x, traded);
         traded
     }
@@ -68,15 +61,10 @@ impl Floor {
         ensures traded { result ≡ min lots (held_by (at side (Limit x)) (open_orders self.old.table)) }
     {
         match terms {
-            Terms::Opening(price) => self.trade_level(
-                policy,
-                price,
-                Level {
-                    side,
-                    kind: Kind::Limit(x),
-                },
-                lots,
-            ),
+            Terms::Opening(price) => {
+                let kind = Kind::Limit(x);
+                self.trade_level(policy, price, Level { side, kind }, lots)
+            }
             Terms::Entry(number) => self.meet_entry(policy, number, side, x, lots),
         }
     }

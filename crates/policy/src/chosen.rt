@@ -24,7 +24,8 @@ impl Policy for Base {
     }
 }
 
-// A policy as it is, or with a favour over it.
+// A policy as it is, or with a favour over it: a type of its own, since an `impl Policy` stands on it, and a boxed policy
+// would need the heap.
 #[derive(Clone, Copy, PartialEq, Eq, Debug)]
 pub enum Layered<P> {
     Plain(P),

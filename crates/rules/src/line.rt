@@ -1,7 +1,8 @@
 // The line of a Trading ID.
 mod methods;
 
-// Up or down, with its successor if one is named.
+// Up or down, with its successor if one is named. No struct of both: a line call matches on the state and the event
+// together.
 #[derive(Clone, Copy, PartialEq, Eq, Debug)]
 pub enum Line {
     Up(Option<u8>),

@@ -8,7 +8,8 @@ pub enum Side {
     Offer,
 }
 
-// A limit order has a price; an On-Open order waits for the opening's.
+// A limit order has a price; an On-Open order waits for the opening's. No Option: an order without a price that comes
+// into an open book is a market order, which is something else.
 #[derive(Clone, Copy, PartialEq, Eq, Debug, Default)]
 pub enum Kind {
     Limit(u32),
@@ -23,7 +24,8 @@ pub struct Level {
     pub kind: Kind,
 }
 
-// How long an order stays open: to the evening close, to the next close, or to the evening close of a day.
+// How long an order stays open: to the evening close, to the next close, or to the evening close of a day. What an entry
+// asks for may leave the day out, so it has a type of its own, `TimeInForce`.
 #[derive(Clone, Copy, PartialEq, Eq, Debug, Default)]
 pub enum Lifetime {
     #[default]

@@ -22,7 +22,7 @@ pub enum Refusal {
 }
 
 impl Refusal {
-    // The number that the exchange is told.
+    // The number that the exchange is told. No From: a number is one thing told of a refusal, as a status code is.
     pub fn number(self) -> u32
         ensures { result ≡ number_of self }
     {

@@ -21,7 +21,8 @@ pub struct Table {
     ghost fit: { all_fit orders.items ≡ true },
 }
 
-// Which prices of a side are counted.
+// Which prices of a side are counted. An enum and no closure, as the two below: a clause names what it picks by one
+// definition, where a closure's would say it of each order by `F.post`.
 #[derive(Clone, Copy, PartialEq, Eq, Debug)]
 pub enum Prices {
     Any,

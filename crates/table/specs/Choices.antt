@@ -20,16 +20,13 @@ among Any s x = true
 among (AsGoodAs q) s x = as_good_as s q x
 among (BetterThan q) s x = better_than s q x
 
-abbrev pub counted : Side → Prices → Order → ℕ
-counted s prices o = cond (is s o.side && priced (among prices s) o.kind) o.lots 0
+abbrev pub counts : Side → Prices → Order → Bool
+counts s prices o = is s o.side && priced (among prices s) o.kind
 
 abbrev pub leaves : Leaving → Order → Bool
 leaves (OfLine id) o = drops id o
 leaves OnOpen o = on_open o
 leaves (AtClose hours today) o = lapses hours today o.lifetime
-
-abbrev pub withdrawn : Side → Leaving → Order → ℕ
-withdrawn s leaving o = cond (is s o.side && leaves leaving o) o.lots 0
 
 abbrev pub changed : Change → Order → Order
 changed (Pass from to) o = cond (drops from o) (passed to o) o

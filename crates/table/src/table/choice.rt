@@ -1,6 +1,6 @@
 // Which orders are meant, and what becomes of one.
-ghost use Rattle.std.specs.Prelude.{◌≡◌, ◌≤◌};
-ghost use Rattle.table.specs.Choices.{among, counted, leaves, withdrawn, changed};
+ghost use Rattle.std.specs.Prelude.{◌≡◌};
+ghost use Rattle.table.specs.Choices.{among, counts, leaves, changed};
 
 use super::{Change, Leaving, Prices};
 use rules::order::{Kind, Order, Side};
@@ -16,15 +16,11 @@ impl Prices {
         }
     }
 
-    // The lots of a limit order of the side at one of the prices, else none.
-    pub fn counted(self, side: Side, o: Order) -> u32
-        ensures value { result ≡ counted side self o }
-        ensures most { result ≤ o.lots }
+    // Whether an order is a limit order of the side at one of the prices.
+    pub fn has(self, side: Side, o: Order) -> bool
+        ensures { result ≡ counts side self o }
     {
-        match o.limit(side) {
-            Some(x) if self.among(side, x) => o.lots,
-            _ => 0,
-        }
+        o.limit(side).is_some_and(|x| self.among(side, x))
     }
 }
 
@@ -37,18 +33,6 @@ impl Leaving {
             Leaving::OfLine(id) => o.drops(id),
             Leaving::OnOpen => o.kind == Kind::OnOpen,
             Leaving::AtClose { hours, today } => o.lapses(hours, today),
-        }
-    }
-
-    // The lots withdrawn with an order of the side.
-    pub fn lots(self, side: Side, o: Order) -> u32
-        ensures value { result ≡ withdrawn side self o }
-        ensures most { result ≤ o.lots }
-    {
-        if side == o.side && self.takes(o) {
-            o.lots
-        } else {
-            0
         }
     }
 }

@@ -62,7 +62,7 @@ impl Table {
     fn leaving_lots(&self, leaving: Leaving, side: Side) -> u32
         ensures { result ≡ held (λ o. is side o.side && leaves leaving o) (open_orders self.now) }
     {
-        self.orders.iter().map(|o| leaving.lots(side, *o)).sum()
+        self.held(|o| o.side == side && leaving.takes(o))
     }
 
     // Withdraws the orders that leave, and answers their lots, of bids and of offers.

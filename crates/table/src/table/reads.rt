@@ -1,9 +1,11 @@
 // What is read of a table.
-ghost use Rattle.std.specs.Prelude.{◌≡◌, ◌≤◌, ◌==◌, length, position};
-ghost use Rattle.rules.specs.Orders.{limits};
+ghost use Rattle.std.specs.Prelude.{◌≡◌, ◌≤◌, ◌==◌, Bool, length, position};
+ghost use Rattle.rules.specs.declared.order.Order.{Order};
+ghost use Rattle.rules.specs.Orders.{limits, held as held_by};
 ghost use Rattle.rules.specs.Checks.{order_of};
 ghost use Rattle.table.specs.Tables.{open_orders};
 ghost use Rattle.table.specs.Choices.{among};
+ghost use Rattle.table.specs.Tests.{Tells};
 
 use super::{Prices, Table};
 use rules::order::{Order, Side};
@@ -36,11 +38,26 @@ impl Table {
         self.orders.iter().find(|o| o.number == number).copied()
     }
 
+    // The lots of the open orders that pass.
+    pub fn held<F: Fn(Order) -> bool>(&self, passes: F) -> u32
+        requires { F.IsAlwaysCallable passes }
+        ensures value { (test : Order → Bool) → Tells (F.post passes) test → result ≡ held_by test (open_orders self.now) }
+        ensures most { result ≤ 2559744 }
+    {
+        let mut sum = 0;
+        for o in self.orders.iter() {
+            if passes(*o) {
+                sum += o.lots;
+            }
+        }
+        sum
+    }
+
     // The lots of the side's limit orders at some prices.
     pub fn lots(&self, side: Side, prices: Prices) -> u32
         ensures value { result ≡ limits side (among prices side) (open_orders self.now) }
         ensures most { result ≤ 2559744 }
     {
-        self.orders.iter().map(|o| prices.counted(side, *o)).sum()
+        self.held(|o| prices.has(side, o))
     }
 }

@@ -17,12 +17,7 @@ use table::table::Table;
 pub(crate) fn lots_at(table: &Table, level: Level) -> u32
     ensures { result ≡ held_by (at level.side level.kind) (open_orders table.now) }
 {
-    table
-        .orders()
-        .iter()
-        .filter(|o| o.at(level))
-        .map(|o| o.lots)
-        .sum()
+    table.held(|o| o.at(level))
 }
 
 // Where a queue holds more than the lots that trade with it, each place gives what the policy shares; else all it holds.

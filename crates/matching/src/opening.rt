@@ -21,7 +21,7 @@ use policy::Policy;
 use rules::calls::OpeningAnswer;
 use rules::order::{Kind, Level, Side};
 use rules::tape::{TapeLine, Terms};
-use table::table::{Change, Leaving, Prices, Table};
+use table::table::{Prices, Table};
 use table::tape::Tape;
 
 // The lots that both sides of a level can trade.
@@ -63,7 +63,7 @@ fn withdraw_on_open(table: &mut Table) -> (u32, u32)
     ensures orders { open_orders table.new ≡ filter (λ o. not (on_open o)) (open_orders table.old) }
     ensures lots { result ≡ pair_of on_open (open_orders table.old) }
 {
-    table.withdraw(Leaving::OnOpen)
+    table.withdraw(|o| o.kind == Kind::OnOpen)
 }
 
 impl Floor {
@@ -114,7 +114,7 @@ impl Floor {
         ensures lines { length (tape_lines self.new.tape) ≤ length (tape_lines self.old.tape) + (length (level Bid OnOpen (open_orders self.old.table)) + length (level Offer OnOpen (open_orders self.old.table))) }
     {
         self.cross(policy, price, Kind::OnOpen);
-        self.table.change(Change::Turn(price));
+        self.table.turn(price);
     }
 
     // The three stages: limit orders with each other; On-Open orders with each other; and what is left of the On-Open

@@ -1,6 +1,7 @@
 -- Lists of orders that fit: what keeps them so, and what they are by the rules.
-use Rattle.std.proofs.Common.{◌≡◌, ℕ, ◌<◌, ◌≤◌, Bool, true, false, cond, ◌&&◌, eqb, ltb, leb, List, [], ◌∷◌, ◌++◌, map, length, get_or, take, set, Some, filter, refl, arith}
+use Rattle.std.proofs.Common.{◌≡◌, ℕ, ◌<◌, ◌≤◌, Bool, true, false, cond, ◌&&◌, eqb, ltb, leb, List, [], ◌∷◌, ◌++◌, map, length, get_or, take, set, Some, filter, sym, refl, subst, arith}
 use Rattle.std.specs.List.{AllByRecursion}
+use Rattle.std.specs.List.Retain.{RetainsInTurn}
 use Rattle.std.proofs.ByRecursion.{All-get_or, All-append, All-set, All-take, All-map, all_kept_by, All-weaker, Decides-by_and}
 use Rattle.std.proofs.lemmas.Bool.{and_parts, and_from, leb-true, le-leb, ltb-true, cond_both}
 use Rattle.rules.specs.declared.order.Side.{Side}
@@ -12,17 +13,15 @@ use Rattle.rules.specs.Orders.{at, InRange, Sound, Book}
 use Rattle.rules.specs.Checks.{order_of, open_lots}
 use Rattle.rules.specs.Trades.{less, taken, standing}
 use Rattle.rules.specs.Steps.{without, reduced}
-use Rattle.rules.specs.Opening.{limit_at}
-use Rattle.rules.specs.Lines.{drops, passed}
-use Rattle.table.specs.declared.table.Change.{Change}
-use Rattle.table.specs.declared.table.Change.TheVariants.{Pass, Turn}
 use Rattle.table.specs.declared.table.Table.{Table}
-use Rattle.table.specs.Fits.{price_fits, kind_fits, fits, all_fit}
+use Rattle.table.specs.Fits.{kind_fits, fits, all_fit}
 use Rattle.table.specs.Tables.{open_orders}
-use Rattle.table.specs.Choices.{changed, change_fits}
 
 abbrev pub Fits : Order → Type 0
 Fits o = fits o ≡ true
+
+abbrev pub AllFit : List Order → Type 0
+AllFit os = all_fit os ≡ true
 
 -- ---- the test of all, and what holds of each
 
@@ -43,6 +42,19 @@ fit_take n os h = all_fits (take n os) (All-take Fits n os (each_fits os h))
 
 pub fit_kept : (t : Order → Bool) (os : List Order) → all_fit os ≡ true → all_fit (filter t os) ≡ true
 fit_kept t os h = all_fits (filter t os) (all_kept_by t Fits os (each_fits os h))
+
+-- What a closure keeps, where it changes neither itself nor an order.
+fit_retained_step : (b : Bool) (o : Order) (os ps qs : List Order) → qs ≡ cond b (o ∷ ps) ps → Fits o → AllFit ps → AllFit qs
+fit_retained_step true o os ps qs e h k = rw e (and_from (fits o) (all_fit ps) h k)
+fit_retained_step false o os ps qs e h k = rw e k
+
+pub fit_retained : {F : Type 0} (R : F → Order → Bool → F → Order → Type 0) (f : F) → ((o : Order) (b : Bool) (f' : F) (p : Order) → R f o b f' p → (f' ≡ f) × (p ≡ o)) → (os ps : List Order) → RetainsInTurn R f os ps → AllFit os → AllFit ps
+fit_retained R f same [] ps h k = rw h refl
+fit_retained R f same (o ∷ os) ps h k =
+    let kept = same o h.0 h.1 h.2 h.3 in
+    let parts = and_parts (fits o) (all_fit os) k in
+    let rest = fit_retained R f same os h.4 (subst (λ g. RetainsInTurn R g os h.4) kept.0 h.5) parts.1 in
+    fit_retained_step h.0 h.2 os h.4 ps h.6 (subst Fits (sym kept.1) parts.0) rest
 
 pub fit_set : (os : List Order) (i : ℕ) (o : Order) → Fits o → all_fit os ≡ true → all_fit (set os i o) ≡ true
 fit_set os i o k h = all_fits (set os i o) (All-set Fits os i o k (each_fits os h))
@@ -75,16 +87,6 @@ pub less_fits : (o : Order) (n : ℕ) → n < o.lots → Fits o → Fits (less o
 less_fits o n lt h =
     let l = lots_fit o h in
     fits_from (less o n) (omega arith) (omega (arith, l.1)) (kind_of_fit o h)
-
-turned_fits : (p : ℕ) (k : Kind) → price_fits p ≡ true → kind_fits k ≡ true → kind_fits (limit_at p k) ≡ true
-turned_fits p (Limit x) h k = k
-turned_fits p OnOpen h k = h
-
-pub changed_fits : (change : Change) → change_fits change ≡ true → (o : Order) → Fits o → Fits (changed change o)
-changed_fits (Pass from to) h o k = cond_both (drops from o) (passed to o) o Fits (λ _. k) (λ _. k)
-changed_fits (Turn price) h o k =
-    let l = lots_fit o k in
-    fits_from (changed (Turn price) o) l.0 l.1 (turned_fits price o.kind h (kind_of_fit o k))
 
 -- ---- an order of a number
 

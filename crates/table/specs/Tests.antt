@@ -1,7 +1,7 @@
 -- What a closure tells of an order.
-use Rattle.std.specs.Prelude.{◌≡◌, Bool}
+use Rattle.std.specs.Prelude.{◌≡◌}
 use Rattle.rules.specs.declared.order.Order.{Order}
 
--- Every answer at an order is the test's.
-abbrev pub Tells : (Order → Bool → Type 0) → (Order → Bool) → Type 0
-Tells answers test = (o : Order) (b : Bool) → answers o b → b ≡ test o
+-- Every answer at an order is the function's.
+abbrev pub Tells : {A : Type 0} → (Order → A → Type 0) → (Order → A) → Type 0
+Tells {A} answers f = (o : Order) (a : A) → answers o a → a ≡ f o

@@ -13,7 +13,7 @@ use rules::calls::{EntryAnswer, TimeInForce};
 use rules::line::LineEvent;
 use rules::order::{Kind, Lifetime, Order, Side};
 use rules::refusal::Refusal;
-use table::table::{Change, Leaving, Table};
+use table::table::Table;
 
 // The orders that do not outlive the line pass to its heir, or are withdrawn where there is none.
 fn hand_over(table: &mut Table, id: u8, heir: Option<u8>) -> (u32, u32)
@@ -22,10 +22,10 @@ fn hand_over(table: &mut Table, id: u8, heir: Option<u8>) -> (u32, u32)
 {
     match heir {
         Some(to) => {
-            table.change(Change::Pass { from: id, to });
+            table.pass(id, to);
             (0, 0)
         }
-        None => table.withdraw(Leaving::OfLine(id)),
+        None => table.withdraw(|o| o.drops(id)),
     }
 }
 

@@ -5,7 +5,6 @@ ghost use Rattle.rules.specs.Steps.{close_book};
 ghost use Rattle.book.specs.Model.{machine, Gives};
 
 use super::Held;
-use table::table::Leaving;
 
 impl Held {
     // Withdraws the orders that lapse, and answers their lots, of bids and of offers.
@@ -14,7 +13,7 @@ impl Held {
     {
         let hours = self.hours;
         let today = self.today;
-        let lots = self.floor.table.withdraw(Leaving::AtClose { hours, today });
+        let lots = self.floor.table.withdraw(|o| o.lapses(hours, today));
         self.today = hours.next_day(today, self.last);
         self.hours = hours.next();
         lots

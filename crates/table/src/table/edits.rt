@@ -1,15 +1,15 @@
 // What changes a table.
-ghost use Rattle.std.specs.Prelude.{◌≡◌, ◌<◌, true, not, ◌&&◌, [], ◌∷◌, ◌++◌, map, length, take, filter};
+ghost use Rattle.std.specs.Prelude.{◌≡◌, ◌<◌, true, not, Bool, [], ◌∷◌, ◌++◌, map, length, take, filter, Some};
 ghost use Rattle.std.specs.List.{remove};
-ghost use Rattle.rules.specs.Orders.{held};
-ghost use Rattle.rules.specs.Sides.{is};
+ghost use Rattle.rules.specs.declared.order.Order.{Order};
 ghost use Rattle.rules.specs.Checks.{order_of, open_lots};
-ghost use Rattle.rules.specs.Steps.{without, reduced, pair_of};
-ghost use Rattle.table.specs.Fits.{fits};
+ghost use Rattle.rules.specs.Opening.{turn};
+ghost use Rattle.rules.specs.Steps.{without, reduced, handed, pair_of};
+ghost use Rattle.table.specs.Fits.{price_fits, fits};
 ghost use Rattle.table.specs.Tables.{open_orders};
-ghost use Rattle.table.specs.Choices.{leaves, changed, change_fits};
+ghost use Rattle.table.specs.Tests.{Tells};
 
-use super::{Change, Leaving, Table};
+use super::Table;
 use arrayvec::ArrayVec;
 use rules::order::{Order, Side};
 
@@ -58,31 +58,41 @@ impl Table {
         }
     }
 
-    // The lots of a side's orders that leave.
-    fn leaving_lots(&self, leaving: Leaving, side: Side) -> u32
-        ensures { result ≡ held (λ o. is side o.side && leaves leaving o) (open_orders self.now) }
-    {
-        self.held(|o| o.side == side && leaving.takes(o))
-    }
-
     // Withdraws the orders that leave, and answers their lots, of bids and of offers.
-    pub fn withdraw(&mut self, leaving: Leaving) -> (u32, u32)
-        ensures orders { open_orders self.new ≡ filter (λ o. not (leaves leaving o)) (open_orders self.old) }
-        ensures lots { result ≡ pair_of (leaves leaving) (open_orders self.old) }
+    pub fn withdraw<F: Fn(Order) -> bool>(&mut self, leaves: F) -> (u32, u32)
+        requires { F.IsAlwaysCallable leaves }
+        ensures orders { (test : Order → Bool) → Tells (F.post leaves) test → open_orders self.new ≡ filter (λ o. not (test o)) (open_orders self.old) }
+        ensures lots { (test : Order → Bool) → Tells (F.post leaves) test → result ≡ pair_of test (open_orders self.old) }
     {
-        let bids = self.leaving_lots(leaving, Side::Bid);
-        let offers = self.leaving_lots(leaving, Side::Offer);
-        self.orders.retain(|o| !leaving.takes(*o));
+        let bids = self.held(|o| o.side == Side::Bid && leaves(o));
+        let offers = self.held(|o| o.side == Side::Offer && leaves(o));
+        self.orders.retain(|o| !leaves(*o));
         (bids, offers)
     }
 
-    // Changes every open order.
-    pub fn change(&mut self, change: Change)
-        requires { change_fits change ≡ true }
-        ensures { open_orders self.new ≡ map (changed change) (open_orders self.old) }
+    // Changes every open order, to one that fits the book as well.
+    fn change<F: Fn(Order) -> Order>(&mut self, to: F)
+        requires callable { F.IsAlwaysCallable to }
+        requires fit { (o r : Order) → fits o ≡ true → F.post to o r → fits r ≡ true }
+        ensures { (f : Order → Order) → Tells (F.post to) f → open_orders self.new ≡ map f (open_orders self.old) }
     {
         for o in self.orders.iter_mut() {
-            *o = change.of(*o);
+            *o = to(*o);
         }
+    }
+
+    // The orders that do not outlive the line of an ID pass to another.
+    pub fn pass(&mut self, from: u8, to: u8)
+        ensures { open_orders self.new ≡ handed from (Some to) (open_orders self.old) }
+    {
+        self.change(|o| if o.drops(from) { o.passed(to) } else { o });
+    }
+
+    // On-Open orders become limit orders at the price.
+    pub fn turn(&mut self, price: u32)
+        requires { price_fits price ≡ true }
+        ensures { open_orders self.new ≡ map (turn price) (open_orders self.old) }
+    {
+        self.change(|o| o.turned(price));
     }
 }

@@ -1,5 +1,4 @@
-use Rattle.std.proofs.Common.{◌≡◌, ◌<◌, Bool, List, length, get_or, sym, ap, ◌∙◌, subst, arith}
-use Rattle.rules.specs.declared.order.Order.{Order}
+use Rattle.std.proofs.Common.{length, get_or, sym, ap, ◌∙◌, arith}
 use Rattle.table.specs.Fits.{all_fit}
 use Rattle.table.proofs.Fit.{lots_fit, fit_read}
 use Rattle.table.proofs.Open.{no_order}

@@ -26,7 +26,7 @@ fn note_entry(tape: &mut Tape, number: u32, side: Side, x: u32, lots: u32)
 
 impl Floor {
     // Trades up to `lots` of an entry with the level at x, and answers the lots traded. Its own line stands behind the
-    // level's.
+    // level's. The price comes by itself and not in a `Level`, since it is written on the tape too.
     fn meet_entry<P: Policy>(
         &mut self,
         policy: &P,

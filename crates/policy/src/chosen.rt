@@ -65,7 +65,8 @@ fn lay<P>(below: P, favours: &[(u32, u32)], place: usize) -> Layered<P>
     }
 }
 
-// The base with favours over it, each a cap and a minimum, the outermost first; none where they are too many.
+// The base with favours over it, each a cap and a minimum, the outermost first; none where they are too many. No loop: each
+// favour makes another type.
 pub fn choose(base: Base, favours: &[(u32, u32)]) -> Option<Chosen>
     ensures { ChosenBy base favours.now result }
 {

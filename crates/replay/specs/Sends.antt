@@ -17,7 +17,7 @@ use Rattle.book.specs.Model.{machine, rules_of, Gives, SamePolicies, said}
 use Rattle.replay.specs.declared.any.AnyBook.{AnyBook}
 use Rattle.replay.specs.Books.{machine_of, opening_of, session_of, rules_in}
 
--- What the calls do that both phases offer; another call is none of them.
+-- What the calls do that both phases offer; any other is answered `WrongPhase`.
 abbrev pub step_in_either : Rules → Machine → Call → Outcome
 step_in_either R m (Cancel id number) = step R m (Cancel id number)
 step_in_either R m (Reduce id number lots) = step R m (Reduce id number lots)
@@ -26,6 +26,7 @@ step_in_either R m (BringLineUp id) = step R m (BringLineUp id)
 step_in_either R m (NameSuccessor id successor) = step R m (NameSuccessor id successor)
 step_in_either R m call = outcome WrongPhase m
 
+-- A book of either phase asked one of them answers so, and is left so.
 pub record AskedEither {P O S : Type 0} (opening : O → Rule) (session : S → Rule) (phase : Phase) (before : Book P O S) (call : Call) (answer : Result Answer Refusal) (after : Book P O S) : Type 0 where
   pub gives : Gives (step_in_either (rules_of opening session before) (machine phase before.held) call) (said (λ a. a) answer) (machine phase after.held)
   pub policies : SamePolicies before after

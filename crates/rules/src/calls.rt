@@ -24,6 +24,8 @@ pub enum Condition {
     Mv(u32),
 }
 
+// Three types of entries, since each call has its own words: an On-Open entry has no price and no condition, a market
+// entry no price.
 #[derive(Clone, Copy, PartialEq, Eq, Debug)]
 pub struct LimitEntry {
     pub id: u8,

@@ -34,6 +34,7 @@ pub enum Lifetime {
     Gtc(u16),
 }
 
+// The defaults of an order and its parts are what the unused places of an ArrayVec hold.
 #[derive(Clone, Copy, PartialEq, Eq, Debug, Default)]
 pub struct Order {
     pub number: u32,

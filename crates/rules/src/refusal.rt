@@ -22,7 +22,7 @@ pub enum Refusal {
 }
 
 impl Refusal {
-    // The number that the exchange is told. No From: a number is one thing told of a refusal, as a status code is.
+    // The number that the exchange is told. No `From`: the number is only one thing that is told of a refusal.
     pub fn number(self) -> u32
         ensures { result ≡ number_of self }
     {

@@ -10,7 +10,7 @@ pub struct TapeLine {
 }
 
 // What a trade with a level is written at: the opening price; or, for the session entry of a number, the level's own
-// price, with a line of the entry behind those of the level.
+// price, with a line of the entry behind those of the level. No closure: one definition says what either writes.
 #[derive(Clone, Copy, PartialEq, Eq, Debug)]
 pub enum Terms {
     Opening(u32),

@@ -25,7 +25,7 @@ pub enum Part {
 }
 
 impl Part {
-    // The largest number that is read for the part.
+    // The largest number that is read for the part; where a fault is printed the type that was read is no longer at hand.
     fn most(self) -> u32 {
         match self {
             Part::Id | Part::Other => u8::MAX.into(),
@@ -72,7 +72,7 @@ pub enum Choice {
 }
 
 impl Choice {
-    // The words that are known.
+    // The words that are known. No `Display`: that says what the choice is.
     fn known(self) -> &'static str {
         match self {
             Choice::Policy => "price-time, pro-rata, favour:CAP:MIN:POLICY",

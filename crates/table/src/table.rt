@@ -20,7 +20,7 @@ pub struct Table {
     ghost fit: { all_fit orders.items ≡ true },
 }
 
-// Which prices of a side are counted.
+// Which prices of a side are counted: a value and no closure, since it travels with a side from an entry to its walk.
 #[derive(Clone, Copy, PartialEq, Eq, Debug)]
 pub enum Prices {
     Any,

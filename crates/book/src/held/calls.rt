@@ -41,8 +41,9 @@ impl Held {
         }
     }
 
-    // Numbers an order and sets it behind the others. What it requires its two callers' checks say; a type for a checked
-    // entry could not carry it, since room and number are the book's, and so it is said here and at `meet`.
+    // Numbers an order and sets it behind the others. The checks of its two callers show what it requires. No type of a
+    // checked entry could carry that: room and the next number belong to the book. The words of an entry come one by one,
+    // here and at `meet`, since the entries are of different types.
     pub(crate) fn wait(
         &mut self,
         id: u8,

@@ -45,7 +45,7 @@ impl fmt::Display for Answer {
     }
 }
 
-// Numbers, a blank before each.
+// Numbers, a blank before each. No one impl for every list: of what a bound writes, the text may be none.
 impl fmt::Display for Word<&[u32]> {
     ghost output = { λ w. Some (spaced_text w.0.now) };
 

@@ -1,5 +1,5 @@
-// What is read of a book in whichever phase. Each read matches by itself: the arms hold books of two types, and one
-// place for both would have to hand out a `dyn` value.
+// What is read of a book in whichever phase. Each read matches by itself: the arms hold books of two types, and one place
+// for both would need what a book holds, which only `book` reads.
 ghost use Rattle.std.specs.Prelude.{◌≡◌};
 ghost use Rattle.replay.specs.Books.{machine_of, opening_of, session_of};
 

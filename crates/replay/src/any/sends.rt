@@ -10,7 +10,7 @@ use policy::Policy;
 use rules::calls::{Answer, Call};
 use rules::refusal::Refusal;
 
-// A call that both phases offer; another one is none of its calls.
+// A call that both phases offer; any other is answered `WrongPhase`.
 fn ask_either<P: Stage, O: Policy, S: Policy>(
     book: &mut Book<P, O, S>,
     call: Call,

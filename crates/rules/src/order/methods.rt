@@ -47,7 +47,8 @@ impl Order {
         ensures { result ≡ limit_of side self }
     {
         match self.kind {
-            Kind::Limit(x) => (side == self.side).then_some(x),
+            _ if side != self.side => None,
+            Kind::Limit(x) => Some(x),
             Kind::OnOpen => None,
         }
     }

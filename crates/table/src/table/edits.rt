@@ -52,10 +52,9 @@ impl Table {
         requires { lots < open_lots (order_of number (open_orders self.old)) }
         ensures { open_orders self.new ≡ reduced number lots (open_orders self.old) }
     {
-        if let Some(at) = self.place(number) {
-            let o = self.orders[at];
-            self.orders[at] = o.less(lots);
-        }
+        let at = self.place(number).unwrap();
+        let o = self.orders[at];
+        self.orders[at] = o.less(lots);
     }
 
     // Withdraws the orders that leave, and answers their lots, of bids and of offers.

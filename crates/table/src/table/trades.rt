@@ -21,7 +21,8 @@ fn trade(o: Order, share: u32, price: u32, tape: &mut Tape) -> Order
     o.less(share)
 }
 
-// Takes the shares off the orders of a level, in their order, and writes a line for each share.
+// Takes the shares off the orders of a level, in their order, and writes a line for each share. No zip with the orders of
+// the level: of what an adapter of `iter_mut` writes nothing is known behind the loop.
 fn take_off(orders: &mut [Order], level: Level, shares: &[u32], price: u32, tape: &mut Tape)
     requires covered { Within (queue_of level.side level.kind orders.old) shares.now }
     requires room { length (tape_lines tape.old) + length shares.now ≤ 512 }
@@ -31,16 +32,15 @@ fn take_off(orders: &mut [Order], level: Level, shares: &[u32], price: u32, tape
     let mut left = shares;
     for o in orders.iter_mut() {
         if o.at(level) {
-            if let Some((share, rest)) = left.split_first() {
-                *o = trade(*o, *share, price, tape);
-                left = rest;
-            }
+            let (share, rest) = left.split_first().unwrap();
+            *o = trade(*o, *share, price, tape);
+            left = rest;
         }
     }
 }
 
 impl Table {
-    // The lots of a level's orders, earliest entry first.
+    // The lots of a level's orders, earliest entry first. No `collect`: into an ArrayVec it could fail.
     pub fn queue(&self, level: Level) -> ArrayVec<u32, MOST_PLACES>
         ensures { result.items ≡ queue_of level.side level.kind (open_orders self.now) }
     {

@@ -28,7 +28,8 @@ impl Tape {
         self.lines.clear();
     }
 
-    // Writes a line, or none where there are no lots.
+    // Writes a line, or none where there are no lots. How much room is asked differs from caller to caller, so each says it;
+    // no type can.
     pub fn note(&mut self, number: u32, side: Side, price: u32, lots: u32)
         requires { length (tape_lines self.old) < 512 }
         ensures { tape_lines self.new ≡ tape_lines self.old ++ line number side price lots }

@@ -1,15 +1,24 @@
-use Rattle.std.proofs.Common.{◌≤◌, length, sym, ◌∙◌, arith}
+use Rattle.std.proofs.Common.{◌≡◌, ◌<◌, ◌≤◌, ⊎_elim, length, sym, ◌∙◌, arith}
 use Rattle.std.proofs.lemmas.List.{append-nil, at_drop_all, set-get_or, take_all}
+use Rattle.std.proofs.lemmas.Bool.{cases_lt}
 use Rattle.rules.specs.Orders.{level}
 use Rattle.rules.specs.Trades.{taken, lines}
 use Rattle.table.specs.Tables.{tape_lines}
 use Rattle.table.proofs.Open.{no_order}
 use Rattle.table.proofs.Taking.{turn_yes, turn_no, share_left}
 use Rattle.table.proofs.table.trades.take_off.Goals as goal
-use Rattle.table.proofs.table.trades.take_off.Goals.{then-at+in-Some, then-at+in_default, else-at}
+use Rattle.table.proofs.table.trades.take_off.Goals.{then-at, else-at}
+
+pub unwrap-requires : goal.unwrap-requires
+unwrap-requires c =
+    let none = share_left c.args.level.side c.args.level.kind c.args.orders.now c.loop-o.o-index no_order c.loop-o-test.true c.args.shares.now c.loop-o.left.now c.loop-o.orders c.loop-o.invariant.0 (sym c.at.ensures ∙ c.if-at.true) in
+    let some : 0 < length c.loop-o.left.now = ⊎_elim (λ lt. lt) (λ le. absurd (none (omega arith))) (cases_lt 0 (length c.loop-o.left.now)) in
+    c.split_first.ensures.variant.1 some
 
 pub trade-requires : goal.trade-requires
-trade-requires c = omega (arith, c.loop-o.invariant.1.room, c.in-Some.ensures.cases.1)
+trade-requires c =
+    let first = rw c.unwrap.ensures at c.split_first.ensures.cases in
+    omega (arith, c.loop-o.invariant.1.room, first.1)
 
 pub loop-o-preserved : goal.loop-o-preserved
 loop-o-preserved c =
@@ -21,11 +30,11 @@ loop-o-preserved c =
     let shares = c.args.shares.now in
     let before = tape_lines c.args.tape.now in
     elim c.if-at.branch [
-      | then-at+in-Some w ↦
+      | then-at w ↦
+          let first = rw w.unwrap.ensures at w.split_first.ensures.cases in
           rw (w.orders-is, w.tape-is, w.left-is)
-          (turn_yes s k os i no_order c.loop-o-test.true c.args.price shares c.loop-o.left.now w.in-Some.share.now w.in-Some.rest.now ys before (tape_lines c.loop-o.tape) (tape_lines w.trade.new.tape) w.trade.result
-          w.in-Some.ensures.cases.0 w.trade.ensures.left w.trade.ensures.written (sym c.at.ensures ∙ w.if-at.true) c.loop-o.invariant)
-      | then-at+in_default w ↦ absurd (share_left s k os i no_order c.loop-o-test.true shares c.loop-o.left.now ys c.loop-o.invariant.0 (sym c.at.ensures ∙ w.if-at.true) w.in_default.ensures.cases)
+          (turn_yes s k os i no_order c.loop-o-test.true c.args.price shares c.loop-o.left.now w.unwrap.result.0.now w.unwrap.result.1.now ys before (tape_lines c.loop-o.tape) (tape_lines w.trade.new.tape) w.trade.result
+          first.0 w.trade.ensures.left w.trade.ensures.written (sym c.at.ensures ∙ w.if-at.true) c.loop-o.invariant)
       | else-at w ↦
           rw (w.orders-is ∙ set-get_or ys i no_order, w.tape-is, w.left-is)
           (turn_no s k os i no_order c.loop-o-test.true c.args.price shares c.loop-o.left.now ys before (tape_lines c.loop-o.tape) (sym c.at.ensures ∙ w.if-at.false) c.loop-o.invariant)

@@ -1,6 +1,5 @@
 pub mod Answers
 pub mod Best
-pub mod Tests
 pub mod Spans
 pub mod Steps
 pub mod Entries

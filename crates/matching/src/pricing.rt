@@ -5,7 +5,7 @@ ghost use Rattle.rules.specs.Orders.{prices};
 ghost use Rattle.rules.specs.Price.{tradable as tradable_of, volume as volume_of, price_at, untraded, highest, lowest};
 ghost use Rattle.rules.specs.declared.order.Side.TheVariants.{Bid, Offer};
 ghost use Rattle.table.specs.Tables.{open_orders};
-ghost use Rattle.matching.specs.Tests.{Tells};
+ghost use Rattle.table.specs.Tests.{Tells};
 
 use rules::limits::{HIGHEST_PRICE, LOWEST_PRICE};
 use rules::order::Side;

@@ -1,7 +1,6 @@
--- What a closure tells of an order.
+-- What a closure tells.
 use Rattle.std.specs.Prelude.{◌≡◌}
-use Rattle.rules.specs.declared.order.Order.{Order}
 
--- Every answer at an order is the function's.
-abbrev pub Tells : {A : Type 0} → (Order → A → Type 0) → (Order → A) → Type 0
-Tells {A} answers f = (o : Order) (a : A) → answers o a → a ≡ f o
+-- Each of its answers is the function's.
+abbrev pub Tells : {X A : Type 0} → (X → A → Type 0) → (X → A) → Type 0
+Tells {X} {A} answers f = (x : X) (a : A) → answers x a → a ≡ f x

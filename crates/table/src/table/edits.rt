@@ -70,7 +70,7 @@ impl Table {
     }
 
     // Changes every open order, to one that fits the book as well.
-    fn change<F: Fn(Order) -> Order>(&mut self, to: F)
+    pub fn change<F: Fn(Order) -> Order>(&mut self, to: F)
         requires callable { F.IsAlwaysCallable to }
         requires fit { (o r : Order) → fits o ≡ true → F.post to o r → fits r ≡ true }
         ensures { (f : Order → Order) → Tells (F.post to) f → open_orders self.new ≡ map f (open_orders self.old) }

@@ -7,10 +7,11 @@ use Rattle.rules.specs.declared.calls.Phase.{Phase}
 use Rattle.rules.specs.declared.calls.Call.{Call}
 use Rattle.rules.specs.declared.calls.Answer.{Answer}
 use Rattle.rules.specs.declared.calls.LimitEntry.{LimitEntry}
+use Rattle.rules.specs.declared.calls.Trial.{Trial}
 use Rattle.rules.specs.declared.refusal.Refusal.{Refusal}
 use Rattle.rules.specs.Ladders.{step_at}
 use Rattle.rules.specs.Refusals.{Check, first}
-use Rattle.rules.specs.Checks.{limit_checks}
+use Rattle.rules.specs.Checks.{limit_checks, trial_checks}
 use Rattle.rules.specs.Machine.{Machine}
 use Rattle.rules.specs.Steps.{Outcome, refused, checked, step}
 use Rattle.table.specs.Fits.{price_fits, entry_fits}
@@ -85,13 +86,13 @@ taken_price true x e = grind (arith, nat_tests)
 taken_price false x e = grind (arith, nat_tests)
 
 -- What the table and the numbers need of a limit entry, waiting or in session.
-pub record Room (m : Machine) (e : LimitEntry) : Type 0 where
+pub record LimitRoom (m : Machine) (e : LimitEntry) : Type 0 where
   pub room : length m.orders < 256
   pub number : m.next < 4294967295
   pub fit : entry_fits (Limit e.price) e.lots ≡ true
   pub rests : room_for (Some e.price) m.orders ≡ true
 
-pub limit_room : (m : Machine) (e : LimitEntry) → Passes (limit_checks m e) → Room m e
+pub limit_room : (m : Machine) (e : LimitEntry) → Passes (limit_checks m e) → LimitRoom m e
 limit_room m e ok =
     let a = (passes_all (limit_checks m e) ok).1.1 in
     let p = taken_price (eqb (e.price % step_at m.ladder e.price) 0) e.price a.0 in
@@ -99,3 +100,16 @@ limit_room m e ok =
     let full = a.1.1.1.1.1.0 in
     let numbers = a.1.1.1.1.1.1.0 in
     record { room = grind (arith, nat_tests); number = grind (arith, nat_tests); fit = grind (arith, nat_tests); rests = grind (arith, nat_tests) }
+
+-- What a new order needs of the table.
+pub record Room (m : Machine) (fit : Bool) : Type 0 where
+  pub room : length m.orders < 256
+  pub fits : fit ≡ true
+
+pub trial_room : (m : Machine) (t : Trial) → Passes (trial_checks m t) → Room m (entry_fits (Limit t.price) t.lots)
+trial_room m t ok =
+    let a = passes_all (trial_checks m t) ok in
+    let p = taken_price (eqb (t.price % step_at m.ladder t.price) 0) t.price a.0 in
+    let lots = a.1.0 in
+    let full = a.1.1.0 in
+    record { room = grind (arith, nat_tests); fits = grind (arith, nat_tests) }

@@ -1,9 +1,9 @@
 -- A favour over a fair rule is fair. Assumes nothing. Here since an impl names it: a proof of an impl's law stands in specs/.
-use Rattle.std.specs.Prelude.{◌≡◌, ℕ, ◌-◌, ◌≤◌, min, List, [], ◌∷◌, nat_le, slice_index}
+use Rattle.std.specs.Prelude.{◌≡◌, ℕ, ◌+◌, ◌-◌, ◌≤◌, min, List, [], ◌∷◌, nat_le, slice_index}
 use Rattle.std.proofs.Common.{arith}
 use Rattle.std.proofs.lemmas.Bool.{cond_both}
-use Rattle.policy.specs.Queue.{Queue}
-use Rattle.policy.specs.Fair.{total, Within, Rule, Fairly}
+use Rattle.policy.specs.Queue.{most_lots, Queue}
+use Rattle.policy.specs.Fair.{total, Within, Fair, Rule, Fairly}
 use Rattle.policy.specs.Favour.{capped, favoured, less, more, favour}
 
 pub favoured_le_lots : (limit minimum : ℕ) (q : List ℕ) (v : ℕ) → favoured limit minimum q v ≤ v
@@ -38,3 +38,10 @@ favour_fair limit minimum below fair q v h =
     let first = favoured_le_first limit minimum q v in
     let f = fair (less q g) (v - g) (less_queue q g h) in
     record { within = more_within q _ g first f.within; adds = more_adds q _ v g lots first f.within f.adds }
+
+-- the first share and the favour are no more than the place
+pub first_fits : (q s : List ℕ) (v g : ℕ) → Queue q → g ≤ slice_index q 0 → Fair (less q g) v s → slice_index s 0 + g ≤ most_lots
+first_fits [] [] v g h le f = omega arith
+first_fits [] (y ∷ ys) v g h le f = absurd f.within
+first_fits (x ∷ xs) [] v g h le f = absurd f.within
+first_fits (x ∷ xs) (y ∷ ys) v g h le f = omega (arith, f.within.0, h.small.0)

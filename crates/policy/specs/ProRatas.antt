@@ -5,7 +5,7 @@ use Rattle.std.proofs.Math.Nat.{div-zero, mod-zero, sub-zero}
 use Rattle.std.proofs.lemmas.Bool.{cases_lt}
 use Rattle.std.proofs.lemmas.Bool.Decides.{nat_tests}
 use Rattle.policy.specs.Fair.{total, Within, Fair}
-use Rattle.policy.specs.ProRata.{whole, broken, dealt, spare, pro_rata}
+use Rattle.policy.specs.ProRata.{whole, broken, dealt, spare, shared, pro_rata}
 
 -- one of the lots left, for a place whose exact share is not whole: its remainder is not 0
 abbrev pub extra : ℕ → ℕ → ℕ
@@ -17,13 +17,16 @@ dealing t v left [] = []
 dealing t v left (x ∷ xs) =
     (whole t v x + extra left (v * x % t)) ∷ dealing t v (left - extra left (v * x % t)) xs
 
+pub one_is : (left m : ℕ) → cond (nat_lt 0 m && nat_lt 0 left) 1 0 ≡ extra left m
+one_is left m = grind (arith, nat_tests)
+
 extra_is : (r before m : ℕ) → cond (nat_lt 0 m && nat_lt before r) 1 0 ≡ extra (r - before) m
 extra_is r before m = grind (arith, nat_tests)
 
 left_is : (r before m : ℕ) → r - (before + cond (nat_lt 0 m) 1 0) ≡ (r - before) - extra (r - before) m
 left_is r before m = grind (arith, nat_tests)
 
-dealt_is : (t v r before : ℕ) (q : List ℕ) → dealt t v r before q ≡ dealing t v (r - before) q
+pub dealt_is : (t v r before : ℕ) (q : List ℕ) → dealt t v r before q ≡ dealing t v (r - before) q
 dealt_is t v r before [] = refl
 dealt_is t v r before (x ∷ xs) =
     let m = v * x % t in
@@ -99,6 +102,9 @@ rounded_le v q =
     (λ (e : total q ≤ 0). let z : total q ≡ 0 = omega arith in omega (arith, ap (λ t. total (map (whole t v) q)) z, rounded_none v q))
     (cases_lt 0 (total q))
 
+shared_is : (t v : ℕ) (q : List ℕ) → shared t v q ≡ dealing t v (spare t v q) q
+shared_is t v q = sym (dealing_is t v (spare t v q) q)
+
 dealing_adds : (v : ℕ) (q : List ℕ) → v ≤ total q → total (dealing (total q) v (spare (total q) v q) q) ≡ v
 dealing_adds v q le =
     let t = total q in
@@ -116,6 +122,4 @@ dealing_fair q v =
     record { within = dealing_within (total q) w (spare (total q) w q) q le; adds = dealing_adds w q le }
 
 pub pro_rata_fair : (q : List ℕ) (v : ℕ) → Fair q v (pro_rata q v)
-pro_rata_fair q v =
-    let w = min v (total q) in
-    subst (Fair q v) (dealing_is (total q) w (spare (total q) w q) q) (dealing_fair q v)
+pro_rata_fair q v = subst (Fair q v) (sym (shared_is (total q) (min v (total q)) q)) (dealing_fair q v)

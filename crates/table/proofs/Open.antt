@@ -1,9 +1,10 @@
--- Orders by their places: the first of a number, and what a walk over the orders has read.
+-- Orders by their places: the first of a number, and what a walk over the orders has read. The length of a tape.
 use Rattle.std.proofs.Common.{◌≡◌, ℕ, suc, ◌+◌, ◌<◌, ◌≤◌, Bool, true, false, cond, not, eqb, ltb, List, [], ◌∷◌, ◌++◌, map, length, get_or, take, drop, set, Some, None, Option, sym, refl, ap, ◌∙◌, add-zero, one-add, arith}
 use Rattle.std.specs.List.{remove, position, position_or_len, refill}
 use Rattle.std.proofs.lemmas.List.{get_or-drop, drop-drop, take_all, drop_all, append-nil, length-map}
 use Rattle.std.proofs.lemmas.Bool.{ltb-true, ltb-false}
 use Rattle.std.proofs.lemmas.Option.{cond_some}
+use Rattle.arrayvec.specs.ArrayVec.{array_vec_len}
 use Rattle.rules.specs.declared.order.Order.{Order}
 use Rattle.rules.specs.declared.order.Side.TheVariants.{Bid}
 use Rattle.rules.specs.declared.order.Kind.TheVariants.{Limit}
@@ -11,10 +12,16 @@ use Rattle.rules.specs.declared.order.Lifetime.TheVariants.{Plain}
 use Rattle.rules.specs.Checks.{order_of, open_lots}
 use Rattle.rules.specs.Trades.{less}
 use Rattle.rules.specs.Steps.{without, reduced}
+use Rattle.table.specs.declared.tape.Tape.{Tape}
+use Rattle.table.specs.Tables.{tape_lines}
 
 -- What a read past the orders would give.
 abbrev pub no_order : Order
 no_order = record { number = 0; id = 0; side = Bid; kind = Limit 0; lots = 0; lifetime = Plain }
+
+-- A tape has as many lines as its vector counts.
+pub tape_length : (t : Tape) → length (tape_lines t) ≡ array_vec_len t.lines
+tape_length t = refl
 
 -- Lists that are the same from i on.
 pub read_same : {X : Type 0} (xs ys : List X) (i : ℕ) (d : X) → drop i ys ≡ drop i xs → get_or ys i d ≡ get_or xs i d

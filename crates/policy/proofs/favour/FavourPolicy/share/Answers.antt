@@ -1,20 +1,11 @@
 -- What the policy below gives the first place leaves room for the favour: the law of the bound.
-use Rattle.std.proofs.Common.{◌≡◌, ℕ, ◌+◌, ◌-◌, ◌≤◌, true, List, [], ◌∷◌, length, get_or, ap, arith, rules}
-use Rattle.policy.specs.Queue.{most_lots, Queue}
-use Rattle.policy.specs.Fair.{Fair}
+use Rattle.std.proofs.Common.{◌≡◌, ◌-◌, ◌≤◌, true, length, get_or, ap, arith, rules}
 use Rattle.policy.specs.Asked.{answered}
 use Rattle.policy.specs.Favour.{less}
 use Rattle.policy.proofs.Queues.{answered_queue}
-use Rattle.policy.specs.Favours.{favoured_le_first, less_queue}
+use Rattle.policy.specs.Favours.{favoured_le_first, less_queue, first_fits}
 use Rattle.policy.proofs.Asking.{taken_shares}
 use Rattle.policy.proofs.favour.FavourPolicy.share.Goals as goal
-
--- the first share and the favour are no more than the place
-first_fits : (q s : List ℕ) (v g : ℕ) → Queue q → g ≤ get_or q 0 0 → Fair (less q g) v s → get_or s 0 0 + g ≤ most_lots
-first_fits [] [] v g h le f = omega arith
-first_fits [] (y ∷ ys) v g h le f = absurd f.within
-first_fits (x ∷ xs) [] v g h le f = absurd f.within
-first_fits (x ∷ xs) (y ∷ ys) v g h le f = omega (arith, f.within.0, h.small.0)
 
 pub add_first-requires : goal.add_first-requires
 add_first-requires g c =

@@ -32,7 +32,8 @@ fn rests(limit: Option<u32>, condition: Condition) -> bool
     limit.is_some() && condition != Condition::Ic
 }
 
-// Sets the rest of an entry behind the other orders, if it stays open.
+// Sets the rest of an entry behind the other orders, if it stays open. That the lots are few is asked here, of `enter` and
+// of its caller: `Incoming` is open to all, and its type asks it of nobody who writes one.
 fn set_rest(table: &mut Table, e: Incoming, left: u32)
     requires room { room_for e.limit (open_orders table.old) ≡ true }
     requires few { left ≤ 9999 }

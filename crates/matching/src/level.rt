@@ -49,7 +49,7 @@ impl Floor {
     {
         let held = lots_at(&self.table, level);
         let queue = self.table.queue(level);
-        // the shares begin as the queue; a `clone` of it could fail
+        // the shares begin as the queue; its `clone` answers a Result, with an error that never comes
         let mut shares = self.table.queue(level);
         share_out(policy, &queue, held, lots, &mut shares);
         self.table.apply(level, &shares, price, &mut self.tape);

@@ -107,6 +107,8 @@ impl Floor {
     }
 
     // Stage two: the On-Open orders trade with each other, and what is left of them becomes limit orders at the price.
+    // That the price is one an order may have is asked here, below and where the table turns: a price with that in its
+    // type would be no `u32`, which the order's kind holds.
     fn trade_on_open<P: Policy>(&mut self, policy: &P, price: u32)
         requires within { price_fits price ≡ true }
         requires room { length (tape_lines self.old.tape) ≤ 256 }

@@ -86,6 +86,7 @@ fn start(rt: &HostRuntime) -> anyhow::Result<()> {
     }
 }
 
+// No `map_err`: making the text of the error may itself fail, by `?`.
 fn play_file(rt: &HostRuntime, path: &str) -> anyhow::Result<Summary> {
     match File::open(rt, path) {
         Ok(file) => Ok(play(rt, BufReader::new(rt.alloc(), file)?)?),

@@ -1,4 +1,4 @@
-// A policy that is chosen when the program runs.
+// A policy that is chosen when the program runs: an enum in place of a boxed policy, which would need the heap.
 ghost use Rattle.std.specs.Prelude.{◌≡◌};
 ghost use Rattle.policy.specs.Chosen.{base_rule, layered_rule, laid, ChosenBy};
 ghost use Rattle.policy.specs.Choosing.{base_fair, layered_fair};

@@ -114,8 +114,8 @@ pub struct OpeningAnswer {
     pub price: Option<u32>,
 }
 
-// Pairs of lots withdrawn are bids and offers. A refusal is an answer too, since a run of calls keeps one for each call;
-// the calls themselves answer a Result, and `?` hands a refusal on.
+// Pairs of lots withdrawn are bids and offers. A refusal is an answer too: the rule book's machine and the laws over runs
+// say so, and a run keeps one answer for each call. The calls themselves answer a Result, and `?` hands a refusal on.
 #[derive(Clone, Copy, PartialEq, Eq, Debug)]
 pub enum Answer {
     Entered(EntryAnswer),

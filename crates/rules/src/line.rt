@@ -9,7 +9,7 @@ pub enum Line {
     Down(Option<u8>),
 }
 
-// What a line call does to a line.
+// What a line call does to a line: an enum and no closure, since the rule is one table of states and events.
 #[derive(Clone, Copy, PartialEq, Eq, Debug)]
 pub enum LineEvent {
     GoesDown,

@@ -25,7 +25,8 @@ pub struct Level {
 }
 
 // How long an order stays open: to the evening close, to the next close, or to the evening close of a day. What an entry
-// asks for may leave the day out, so it has a type of its own, `TimeInForce`.
+// asks for may leave the day out, so it has a type of its own, `TimeInForce`: as two uses of one `Lifetime<D>` both would
+// need their names again.
 #[derive(Clone, Copy, PartialEq, Eq, Debug, Default)]
 pub enum Lifetime {
     #[default]

@@ -67,7 +67,7 @@ fn market<'a>(words: &mut SplitAsciiWhitespace<'a>) -> Result<MarketEntry, Fault
     })
 }
 
-// cancel ID NUMBER
+// cancel ID NUMBER; each call has parts and a variant of its own, so `cancel` and `successor` read alike and stay two.
 fn cancel<'a>(words: &mut SplitAsciiWhitespace<'a>) -> Result<Call, Fault<'a>> {
     let id = next_number(words, Part::Id)?;
     let number = next_number(words, Part::Number)?;

@@ -42,10 +42,7 @@ fn command<'a>(
 
 // No word is left.
 fn ended<'a>(mut words: SplitAsciiWhitespace<'a>) -> Result<(), Fault<'a>> {
-    match words.next() {
-        Some(word) => Err(Fault::Spare(word)),
-        None => Ok(()),
-    }
+    words.next().map_or(Ok(()), |word| Err(Fault::Spare(word)))
 }
 
 // share POLICY LOTS PLACE PLACE ..

@@ -38,7 +38,7 @@ fn minimum_outside(condition: Condition, lots: u32) -> bool
 fn is_plain(t: TimeInForce) -> bool
     ensures { result ≡ is_plain t }
 {
-    matches!(t, TimeInForce::Plain)
+    t == TimeInForce::Plain
 }
 
 fn limit_allowed(phase: Phase, t: TimeInForce, condition: Condition) -> bool

@@ -20,6 +20,7 @@ impl<O: Policy, S: Policy> Book<Trading, O, S> {
             mut held,
         } = self;
         let lots = held.close();
+        // built anew, since its phase is its type
         let closed = Book {
             stage: Waiting,
             opening,

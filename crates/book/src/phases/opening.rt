@@ -21,6 +21,7 @@ impl<O: Policy, S: Policy> Book<Waiting, O, S> {
             mut held,
         } = self;
         let answer = held.floor.open_orders(&opening);
+        // built anew, since its phase is its type
         let opened = Book {
             stage: Trading,
             opening,

@@ -31,7 +31,8 @@ impl<O: Policy, S: Policy> Book<Trading, O, S> {
         Ok(self.meet(e.id, e.side, None, e.lots, e.lifetime, e.condition))
     }
 
-    // Numbers an entry, which then meets the book.
+    // Numbers an entry, which then meets the book. The words of an entry come one by one, and its conditions stand here, as
+    // at `Held::wait`.
     fn meet(
         &mut self,
         id: u8,

@@ -19,7 +19,7 @@ impl fmt::Display for Page {
     }
 }
 
-// Each order on a line of its own.
+// Each order on a line of its own. No one impl for every list, as with numbers (answer/text.rt).
 impl fmt::Display for Word<&[Order]> {
     ghost output = { λ w. Some (orders_text w.0.now) };
 

@@ -38,7 +38,8 @@ impl Table {
         self.orders.iter().find(|o| o.number == number).copied()
     }
 
-    // The lots of the open orders that pass.
+    // The lots of the open orders that pass. No chain: its sum must fit whatever the closure answers, and of a `filter` the
+    // library's lemmas tell nothing unless a function tells the closure.
     pub fn held<F: Fn(Order) -> bool>(&self, passes: F) -> u32
         requires { F.IsAlwaysCallable passes }
         ensures value { (test : Order → Bool) → Tells (F.post passes) test → result ≡ held_by test (open_orders self.now) }
@@ -53,7 +54,8 @@ impl Table {
         sum
     }
 
-    // The lots of the side's limit orders at some prices.
+    // The lots of the side's limit orders at some prices. Most callers ask at one price of one side, so a struct of both would
+    // be built at each call.
     pub fn lots(&self, side: Side, prices: Prices) -> u32
         ensures value { result ≡ limits side (among prices side) (open_orders self.now) }
         ensures most { result ≤ 2559744 }

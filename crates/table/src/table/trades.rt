@@ -40,7 +40,8 @@ fn take_off(orders: &mut [Order], level: Level, shares: &[u32], price: u32, tape
 }
 
 impl Table {
-    // The lots of a level's orders, earliest entry first. No `collect`: into an ArrayVec it could fail.
+    // The lots of a level's orders, earliest entry first. No `collect`: into an ArrayVec it asks for an allocator, and
+    // answers a Result.
     pub fn queue(&self, level: Level) -> ArrayVec<u32, MOST_PLACES>
         ensures { result.items ≡ queue_of level.side level.kind (open_orders self.now) }
     {

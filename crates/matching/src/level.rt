@@ -17,7 +17,7 @@ use table::table::Table;
 pub(crate) fn lots_at(table: &Table, level: Level) -> u32
     ensures { result ≡ held_by (at level.side level.kind) (open_orders table.now) }
 {
-    table.held(|o| o.at(level))
+    table.held(|o| o.at(level.side, level.kind))
 }
 
 // Where a queue holds more than the lots that trade with it, each place gives what the policy shares; else all it holds.

@@ -1,16 +1,22 @@
-// What the rules ask of a side and an order.
+// What the rules ask of a side, a kind and an order.
 ghost use Rattle.std.specs.Prelude.{◌≡◌};
-ghost use Rattle.rules.specs.Sides.{other, better_than, as_good_as};
-ghost use Rattle.rules.specs.Orders.{at, limit_of};
+ghost use Rattle.rules.specs.Sides.{is, other, better_than, as_good_as};
+ghost use Rattle.rules.specs.Orders.{same, at, limit_of};
 ghost use Rattle.rules.specs.Trades.{less};
 ghost use Rattle.rules.specs.Opening.{turn};
 ghost use Rattle.rules.specs.Lines.{drops, passed};
 ghost use Rattle.rules.specs.Steps.{lapses};
 
-use super::{Kind, Level, Lifetime, Order, Side};
+use super::{Kind, Lifetime, Order, Side};
 use crate::calls::Hours;
 
 impl Side {
+    pub fn is(self, side: Side) -> bool
+        ensures { result ≡ is self side }
+    {
+        self == side
+    }
+
     pub fn other(self) -> Side
         ensures { result ≡ other self }
     {
@@ -41,6 +47,14 @@ impl Side {
     }
 }
 
+impl Kind {
+    pub fn is(self, kind: Kind) -> bool
+        ensures { result ≡ same self kind }
+    {
+        self == kind
+    }
+}
+
 impl Order {
     // The price of a limit order of the side.
     pub fn limit(self, side: Side) -> Option<u32>
@@ -54,10 +68,10 @@ impl Order {
     }
 
     // Whether the order is of the level.
-    pub fn at(self, level: Level) -> bool
-        ensures { result ≡ at level.side level.kind self }
+    pub fn at(self, side: Side, kind: Kind) -> bool
+        ensures { result ≡ at side kind self }
     {
-        level.side == self.side && level.kind == self.kind
+        side == self.side && kind == self.kind
     }
 
     // Whether the order does not outlive the line of the ID.

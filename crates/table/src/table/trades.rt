@@ -31,7 +31,7 @@ fn take_off(orders: &mut [Order], level: Level, shares: &[u32], price: u32, tape
 {
     let mut left = shares;
     for o in orders.iter_mut() {
-        if o.at(level) {
+        if o.at(level.side, level.kind) {
             let (share, rest) = left.split_first().unwrap();
             *o = trade(*o, *share, price, tape);
             left = rest;
@@ -47,7 +47,7 @@ impl Table {
     {
         let mut queue = ArrayVec::new();
         for o in self.orders.iter() {
-            if o.at(level) {
+            if o.at(level.side, level.kind) {
                 queue.push(o.lots);
             }
         }

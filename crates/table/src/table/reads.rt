@@ -47,9 +47,8 @@ impl Table {
     {
         let mut sum = 0;
         for o in self.orders.iter() {
-            if passes(*o) {
-                sum += o.lots;
-            }
+            let o = *o;
+            sum += if passes(o) { o.lots } else { 0 };
         }
         sum
     }

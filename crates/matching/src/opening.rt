@@ -63,7 +63,7 @@ fn withdraw_on_open(table: &mut Table) -> (u32, u32)
     ensures orders { open_orders table.new ≡ filter (λ o. not (on_open o)) (open_orders table.old) }
     ensures lots { result ≡ pair_of on_open (open_orders table.old) }
 {
-    table.withdraw(|o| o.kind == Kind::OnOpen)
+    table.withdraw_on_open()
 }
 
 impl Floor {

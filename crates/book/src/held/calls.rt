@@ -25,7 +25,7 @@ fn hand_over(table: &mut Table, id: u8, heir: Option<u8>) -> (u32, u32)
             table.pass(id, to);
             (0, 0)
         }
-        None => table.withdraw(|o| o.drops(id)),
+        None => table.withdraw_line(id),
     }
 }
 

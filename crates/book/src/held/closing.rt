@@ -13,7 +13,7 @@ impl Held {
     {
         let hours = self.hours;
         let today = self.today;
-        let lots = self.floor.table.withdraw(|o| o.lapses(hours, today));
+        let lots = self.floor.table.withdraw_lapsed(hours, today);
         self.today = hours.next_day(today, self.last);
         self.hours = hours.next();
         lots

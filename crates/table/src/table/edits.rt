@@ -3,15 +3,18 @@ ghost use Rattle.std.specs.Prelude.{◌≡◌, ◌<◌, true, not, Bool, [], ◌
 ghost use Rattle.std.specs.List.{remove};
 ghost use Rattle.rules.specs.declared.order.Order.{Order};
 ghost use Rattle.rules.specs.Checks.{order_of, open_lots};
+ghost use Rattle.rules.specs.Lines.{drops};
 ghost use Rattle.rules.specs.Opening.{turn};
-ghost use Rattle.rules.specs.Steps.{without, reduced, handed, pair_of};
+ghost use Rattle.rules.specs.Orders.{on_open};
+ghost use Rattle.rules.specs.Steps.{without, reduced, handed, pair_of, lapses};
 ghost use Rattle.table.specs.Fits.{price_fits, fits};
 ghost use Rattle.table.specs.Tables.{open_orders};
 ghost use Rattle.table.specs.Tests.{Tells};
 
 use super::Table;
 use arrayvec::ArrayVec;
-use rules::order::{Order, Side};
+use rules::calls::Hours;
+use rules::order::{Kind, Order, Side};
 
 impl Table {
     pub fn new() -> Table
@@ -67,6 +70,30 @@ impl Table {
         let offers = self.held(|o| o.side == Side::Offer && leaves(o));
         self.orders.retain(|o| !leaves(*o));
         (bids, offers)
+    }
+
+    // Withdraws the orders that do not outlive the line of an ID.
+    pub fn withdraw_line(&mut self, id: u8) -> (u32, u32)
+        ensures orders { open_orders self.new ≡ filter (λ o. not (drops id o)) (open_orders self.old) }
+        ensures lots { result ≡ pair_of (drops id) (open_orders self.old) }
+    {
+        self.withdraw(|o| o.drops(id))
+    }
+
+    // Withdraws the On-Open orders.
+    pub fn withdraw_on_open(&mut self) -> (u32, u32)
+        ensures orders { open_orders self.new ≡ filter (λ o. not (on_open o)) (open_orders self.old) }
+        ensures lots { result ≡ pair_of on_open (open_orders self.old) }
+    {
+        self.withdraw(|o| o.kind == Kind::OnOpen)
+    }
+
+    // Withdraws the orders that lapse at a close.
+    pub fn withdraw_lapsed(&mut self, hours: Hours, today: u16) -> (u32, u32)
+        ensures orders { open_orders self.new ≡ filter (λ o. not (lapses hours today o.lifetime)) (open_orders self.old) }
+        ensures lots { result ≡ pair_of (λ o. lapses hours today o.lifetime) (open_orders self.old) }
+    {
+        self.withdraw(|o| o.lapses(hours, today))
     }
 
     // Changes every open order, to one that fits the book as well.

@@ -38,6 +38,13 @@ fn lowest<F: Fn(u32) -> bool>(table: &Table, side: Side, passes: F) -> u32
         .fold(HIGHEST_PRICE, u32::min)
 }
 
+// Half the sum, rounded down.
+fn middle(a: u32, b: u32) -> u32
+    ensures { result ≡ midpoint a b }
+{
+    a.midpoint(b)
+}
+
 // The lots of limit orders that could trade with each other at q.
 fn tradable(table: &Table, q: u32) -> u32
     ensures { result ≡ tradable_of (open_orders table.now) q }
@@ -75,7 +82,7 @@ fn price_between(table: &Table, v: u32, last_bid: u32, last_offer: u32) -> u32
         |x| v < table.lots(Side::Bid, Prices::AsGoodAs(x)),
     );
     let x = last_bid.min(offer);
-    x.midpoint(last_offer.max(bid))
+    middle(x, last_offer.max(bid))
 }
 
 // The price where no lot trades: the middle between the best bid and the best offer, if both sides have lots.
@@ -86,7 +93,7 @@ fn price_untraded(table: &Table, bids: u32, offers: u32) -> Option<u32>
         return None;
     }
     let bid = highest(table, Side::Bid, |_| true);
-    Some(bid.midpoint(lowest(table, Side::Offer, |_| true)))
+    Some(middle(bid, lowest(table, Side::Offer, |_| true)))
 }
 
 // The opening price, if there is one, where v lots of limit orders trade.
@@ -109,7 +116,7 @@ pub fn price(table: &Table, v: u32) -> Option<u32>
         |x| table.lots(Side::Offer, Prices::BetterThan(x)) < v,
     );
     if bids <= v && offers <= v {
-        Some(last_offer.midpoint(last_bid))
+        Some(middle(last_offer, last_bid))
     } else if bids <= v {
         Some(last_offer)
     } else if offers <= v {

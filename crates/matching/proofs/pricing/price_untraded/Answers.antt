@@ -14,5 +14,5 @@ returns c =
     let some-offers : ltb 0 c.args.offers ≡ true = lt-ltb 0 c.args.offers (omega arith) in
     let bid : c.highest-bid.result ≡ highest (prices Bid os) = c.highest-bid.ensures (λ x. true) (λ x b k. search rules) ∙ ap highest (all_kept (prices Bid os)) in
     let offer : c.lowest.result ≡ lowest (prices Offer os) = c.lowest.ensures (λ x. true) (λ x b k. search rules) ∙ ap lowest (all_kept (prices Offer os)) in
-    let middle = c.midpoint.ensures in
+    let middle = c.middle.ensures in
     rw (some-bids, some-offers) (cc)

@@ -1,6 +1,6 @@
 -- One call more in a run.
 use Rattle.std.proofs.Common.{◌≡◌, ℕ, ◌+◌, ◌<◌, ◌≤◌, min, List, [], ◌∷◌, ◌++◌, map, length, get_or, take, drop, set, sym, refl, ap, ◌∙◌, subst, arith}
-use Rattle.std.proofs.lemmas.List.{length-take-le, length-drop, length-set, take_more, take_more_set, take-append-drop, drop_more, drop-set-lt, drop-drop}
+use Rattle.std.proofs.lemmas.List.{length-take-le, take_all, length-drop, length-set, take_more, take_more_set, take-append-drop, drop_more, drop-set-lt, drop-drop}
 use Rattle.policy.specs.Fair.{Rule}
 use Rattle.rules.specs.declared.calls.Call.{Call}
 use Rattle.rules.specs.declared.calls.Answer.{Answer}
@@ -61,21 +61,29 @@ sofar_more R Q start m n cs old xs i left rest c a cut room same gives s =
     }
 
 -- No call or no place is left.
-sofar_all : (R : Rules) (start m : Machine) (cs : List Call) (old xs : List Answer) (i : ℕ) (left : List Call) → Sofar R start cs old i m xs left → Ran R start (take i cs) old xs m
+pub sofar_all : (R : Rules) (start m : Machine) (cs : List Call) (old xs : List Answer) (i : ℕ) (left : List Call) → Sofar R start cs old i m xs left → Ran R start (take i cs) old xs m
 sofar_all R start m cs old xs i left s = record {
   answers = sym (take-append-drop i xs) ∙ (λ j. s.front j ++ s.rest j) ∙ ap (λ (n : ℕ). answers_of (run R start (take i cs)) ++ drop n old) (sym (length-take-le i cs s.within));
   leaves = s.leaves;
 }
 
--- Where the run ends, no call or no place is left.
-pub replayed : {O S : Type 0} (opening : O → Rule) (session : S → Rule) → KeepsMeaning opening → KeepsMeaning session → (start book : AnyBook O S) (cs : List Call) (old xs : List Answer) (i : ℕ) (left : List Call) → opening_of book ≡ opening_of start → session_of book ≡ session_of start → Sofar (rules_in opening session start) (machine_of start) cs old i (machine_of book) xs left → i ≡ min (length cs) (length old) → Replayed opening session start cs old xs book
+-- The calls that have a place for their answer.
+abbrev pub with_place : List Call → List Answer → List Call
+with_place cs old = take (min (length cs) (length old)) cs
+
+pub with_place_length : (cs : List Call) (old : List Answer) → length (with_place cs old) ≡ min (length cs) (length old)
+with_place_length cs old = length-take-le (min (length cs) (length old)) cs (omega arith)
+
+-- Where the run ends, none of them is left.
+pub replayed : {O S : Type 0} (opening : O → Rule) (session : S → Rule) → KeepsMeaning opening → KeepsMeaning session → (start book : AnyBook O S) (cs : List Call) (old xs : List Answer) (i : ℕ) (left : List Call) → opening_of book ≡ opening_of start → session_of book ≡ session_of start → Sofar (rules_in opening session start) (machine_of start) (with_place cs old) old i (machine_of book) xs left → i ≡ length (with_place cs old) → Replayed opening session start cs old xs book
 replayed opening session fair-opening fair-session start book cs old xs i left same-opening same-session s all =
     let R = rules_in opening session start in
-    let ran = subst (λ (n : ℕ). Ran R (machine_of start) (take n cs) old xs (machine_of book)) all (sofar_all R (machine_of start) (machine_of book) cs old xs i left s) in
+    let placed = with_place cs old in
+    let ran = subst (λ (sent : List Call). Ran R (machine_of start) sent old xs (machine_of book)) (ap (λ (n : ℕ). take n placed) all ∙ take_all (length placed) placed (omega arith)) (sofar_all R (machine_of start) (machine_of book) placed old xs i left s) in
     record {
       ran = ran;
       same_opening = same-opening;
       same_session = same-session;
-      goes_on = λ first ds came. goes_on R first (machine_of start) (machine_of book) ds (take (min (length cs) (length old)) cs) came ran.leaves;
+      goes_on = λ first ds came. goes_on R first (machine_of start) (machine_of book) ds placed came ran.leaves;
       laws = lawful_from opening session fair-opening fair-session start;
     }

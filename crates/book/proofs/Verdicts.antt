@@ -73,13 +73,16 @@ split_check : (b : Bool) (r : Refusal) (rest : Option Refusal) → ◌≡◌ {A 
 split_check true r rest e = cc
 split_check false r rest e = (refl, e)
 
+pub passes_each : (c : Check) (cs : List Check) → Passes (c ∷ cs) → (c.0 ≡ false) × Passes cs
+passes_each c cs e = split_check c.0 c.1 (first cs) e
+
 abbrev AllPass : List Check → Type 0
 AllPass [] = Unit {0}
 AllPass (c ∷ cs) = (c.0 ≡ false) × AllPass cs
 
-passes_all : (cs : List Check) → Passes cs → AllPass cs
+pub passes_all : (cs : List Check) → Passes cs → AllPass cs
 passes_all [] e = tt
-passes_all (c ∷ cs) e = let p = split_check c.0 c.1 (first cs) e in (p.0, passes_all cs p.1)
+passes_all (c ∷ cs) e = let p = passes_each c cs e in (p.0, passes_all cs p.1)
 
 taken_price : (b : Bool) (x : ℕ) → not (leb 1 x && (leb x 4_000_000 && b)) ≡ false → price_fits x ≡ true
 taken_price true x e = grind (arith, nat_tests)

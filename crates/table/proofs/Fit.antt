@@ -11,10 +11,12 @@ use Rattle.rules.specs.declared.order.Order.{Order}
 use Rattle.rules.specs.Limits.{lowest_price, highest_price, most_lots}
 use Rattle.rules.specs.Orders.{at, InRange, Sound, Book}
 use Rattle.rules.specs.Checks.{order_of, open_lots}
+use Rattle.rules.specs.Lines.{drops, passed}
+use Rattle.rules.specs.Opening.{limit_at, turn}
 use Rattle.rules.specs.Trades.{less, taken, standing}
 use Rattle.rules.specs.Steps.{without, reduced}
 use Rattle.table.specs.declared.table.Table.{Table}
-use Rattle.table.specs.Fits.{kind_fits, fits, all_fit}
+use Rattle.table.specs.Fits.{price_fits, kind_fits, fits, all_fit}
 use Rattle.table.specs.Tables.{open_orders}
 
 abbrev pub Fits : Order → Type 0
@@ -87,6 +89,19 @@ pub less_fits : (o : Order) (n : ℕ) → n < o.lots → Fits o → Fits (less o
 less_fits o n lt h =
     let l = lots_fit o h in
     fits_from (less o n) (omega arith) (omega (arith, l.1)) (kind_of_fit o h)
+
+turned_fits : (p : ℕ) (k : Kind) → price_fits p ≡ true → kind_fits k ≡ true → kind_fits (limit_at p k) ≡ true
+turned_fits p (Limit x) h k = k
+turned_fits p OnOpen h k = h
+
+-- An order passed on, or turned to a price that fits, fits as before.
+pub passed_fits : (from to : ℕ) (o : Order) → Fits o → Fits (cond (drops from o) (passed to o) o)
+passed_fits from to o k = cond_both (drops from o) (passed to o) o Fits (λ _. k) (λ _. k)
+
+pub turn_fits : (price : ℕ) → price_fits price ≡ true → (o : Order) → Fits o → Fits (turn price o)
+turn_fits price h o k =
+    let l = lots_fit o k in
+    fits_from (turn price o) l.0 l.1 (turned_fits price o.kind h (kind_of_fit o k))
 
 -- ---- an order of a number
 

@@ -40,25 +40,41 @@ abbrev pub numbered : ℕ → Order → Bool
 numbered n o = eqb o.number n
 
 -- Where it stands, or past the orders where there is none.
-abbrev place_of : ℕ → List Order → ℕ
+abbrev pub place_of : ℕ → List Order → ℕ
 place_of n os = position_or_len (numbered n) os
 
 without_step : (n : ℕ) (o : Order) (os : List Order) (b : Bool) → without n os ≡ remove os (place_of n os) → cond b os (o ∷ without n os) ≡ remove (o ∷ os) (cond (not b) (1 + place_of n os) 0)
 without_step n o os true h = refl
 without_step n o os false h = rw one-add (ap (λ (l : List Order). o ∷ l) h)
 
-without_is : (n : ℕ) (os : List Order) → without n os ≡ remove os (place_of n os)
+pub without_is : (n : ℕ) (os : List Order) → without n os ≡ remove os (place_of n os)
 without_is n [] = refl
 without_is n (o ∷ os) = without_step n o os (eqb o.number n) (without_is n os)
 
 pub without_at : (n : ℕ) (os : List Order) (at : ℕ) → position (numbered n) os ≡ Some at → without n os ≡ remove os at
 without_at n os at e = without_is n os ∙ ap (remove os) (cond_some (ltb (place_of n os) (length os)) (place_of n os) at e).1
 
+order_step : (n : ℕ) (o : Order) (os : List Order) (b : Bool) (d : Order) → (place_of n os < length os → order_of n os ≡ Some (get_or os (place_of n os) d)) → cond (not b) (1 + place_of n os) 0 < suc (length os) → cond b (Some o) (order_of n os) ≡ Some (get_or (o ∷ os) (cond (not b) (1 + place_of n os) 0) d)
+order_step n o os true d h lt = refl
+order_step n o os false d h lt = rw one-add (h (omega arith))
+
+pub order_of_is : (n : ℕ) (os : List Order) (d : Order) → place_of n os < length os → order_of n os ≡ Some (get_or os (place_of n os) d)
+order_of_is n [] d lt = absurd (omega arith)
+order_of_is n (o ∷ os) d lt = order_step n o os (eqb o.number n) d (order_of_is n os d) lt
+
+none_step : (n : ℕ) (o : Order) (os : List Order) (b : Bool) → (length os ≤ place_of n os → order_of n os ≡ None) → suc (length os) ≤ cond (not b) (1 + place_of n os) 0 → cond b (Some o) (order_of n os) ≡ None
+none_step n o os true h le = absurd (omega arith)
+none_step n o os false h le = h (omega arith)
+
+pub order_of_none : (n : ℕ) (os : List Order) → length os ≤ place_of n os → order_of n os ≡ None
+order_of_none n [] le = refl
+order_of_none n (o ∷ os) le = none_step n o os (eqb o.number n) (order_of_none n os) le
+
 reduced_step : (n k : ℕ) (o : Order) (os : List Order) (b : Bool) (d : Order) → reduced n k os ≡ set os (place_of n os) (less (get_or os (place_of n os) d) k) → cond b (less o k ∷ os) (o ∷ reduced n k os) ≡ set (o ∷ os) (cond (not b) (1 + place_of n os) 0) (less (get_or (o ∷ os) (cond (not b) (1 + place_of n os) 0) d) k)
 reduced_step n k o os true d h = refl
 reduced_step n k o os false d h = rw one-add (ap (λ (l : List Order). o ∷ l) h)
 
-reduced_is : (n k : ℕ) (os : List Order) (d : Order) → reduced n k os ≡ set os (place_of n os) (less (get_or os (place_of n os) d) k)
+pub reduced_is : (n k : ℕ) (os : List Order) (d : Order) → reduced n k os ≡ set os (place_of n os) (less (get_or os (place_of n os) d) k)
 reduced_is n k [] d = refl
 reduced_is n k (o ∷ os) d = reduced_step n k o os (eqb o.number n) d (reduced_is n k os d)
 
@@ -92,24 +108,14 @@ without_past n (o ∷ os) le = without_none_step n o os (eqb o.number n) le (wit
 pub without_none : (n : ℕ) (os : List Order) → position (numbered n) os ≡ None → without n os ≡ os
 without_none n os e = without_past n os (past n os e)
 
-no_lots_step : (n : ℕ) (o : Order) (os : List Order) (b : Bool) → suc (length os) ≤ cond (not b) (1 + place_of n os) 0 → (length os ≤ place_of n os → open_lots (order_of n os) ≡ 0) → open_lots (cond b (Some o) (order_of n os)) ≡ 0
-no_lots_step n o os true le h = absurd (omega arith)
-no_lots_step n o os false le h = h (omega arith)
-
 no_lots : (n : ℕ) (os : List Order) → length os ≤ place_of n os → open_lots (order_of n os) ≡ 0
-no_lots n [] le = refl
-no_lots n (o ∷ os) le = no_lots_step n o os (eqb o.number n) le (no_lots n os)
+no_lots n os le = ap open_lots (order_of_none n os le)
 
 pub some_lots : (n k : ℕ) (os : List Order) → k < open_lots (order_of n os) → position (numbered n) os ≡ None → ⊥
 some_lots n k os lt e = omega (arith, no_lots n os (past n os e))
 
-lots_step : (n : ℕ) (o : Order) (os : List Order) (b : Bool) → (place_of n os < length os → open_lots (order_of n os) ≡ (get_or os (place_of n os) no_order).lots) → cond (not b) (1 + place_of n os) 0 < suc (length os) → open_lots (cond b (Some o) (order_of n os)) ≡ (get_or (o ∷ os) (cond (not b) (1 + place_of n os) 0) no_order).lots
-lots_step n o os true h lt = refl
-lots_step n o os false h lt = rw one-add (h (omega arith))
-
 lots_are : (n : ℕ) (os : List Order) → place_of n os < length os → open_lots (order_of n os) ≡ (get_or os (place_of n os) no_order).lots
-lots_are n [] lt = absurd (omega arith)
-lots_are n (o ∷ os) lt = lots_step n o os (eqb o.number n) (lots_are n os) lt
+lots_are n os lt = ap open_lots (order_of_is n os no_order lt)
 
 -- The place of a number is one of the orders', and its order has the open lots.
 pub lots_at : (n : ℕ) (os : List Order) (at : ℕ) → position (numbered n) os ≡ Some at → (at < length os) × (open_lots (order_of n os) ≡ (get_or os at no_order).lots)
